@@ -1,0 +1,184 @@
+-- Frames: digits, the check, the frame of a step and of a start, and what a line means. Document 01, "Frames and journals".
+use mathlib.Core.Bool.{Bool, true, false, not, _&&_, _||_, cond}
+use mathlib.Core.List.{List, [], _∷_, _++_}
+use Prim.Native.Nat.{ℕ, zero, suc, _+_, _-_, _*_, _/_, _%_, _^_}
+use lib.ListN.{length, getD, take, drop}
+use lib.Dec.{leb, ltb, eqb}
+use Rattle.meaning.specs.declared.Action.{Action}
+use Rattle.meaning.specs.declared.Action.the-variants.{Write, Session, Purge}
+use Rattle.meaning.specs.declared.Step.{Step}
+use Rattle.meaning.specs.declared.Line.{Line}
+use Rattle.meaning.specs.declared.Line.the-variants.{Begin, Act, Refused}
+use Rattle.meaning.specs.declared.Framed.{Framed}
+use Rattle.meaning.specs.declared.Framed.the-variants.{Length, Refused as Unframed}
+use Rattle.meaning.specs.Rows.{given, unless}
+use Rattle.meaning.specs.Table.{countRight, place}
+use Rattle.meaning.specs.Steps.{outcomeAbove}
+
+-- "uppercase hexadecimal": the digit of a number below 16, and the number of a character, 16 where it is no digit
+unfoldable pub digit : ℕ → ℕ
+digit v = cond (ltb v 10) (48 + v) (55 + v)
+
+unfoldable pub digitValue : ℕ → ℕ
+digitValue c = cond (leb 48 c && leb c 57) (c - 48) (cond (leb 65 c && leb c 70) (c - 55) 16)
+
+-- "two digits a byte"
+unfoldable pub spelled : List ℕ → List ℕ
+spelled [] = []
+spelled (b ∷ bs) = digit (b / 16) ∷ digit (b % 16) ∷ spelled bs
+
+unfoldable pub bytesOf : List ℕ → List ℕ
+bytesOf [] = []
+bytesOf (h ∷ []) = []
+bytesOf (h ∷ (l ∷ cs)) = (16 * digitValue h + digitValue l) ∷ bytesOf cs
+
+unfoldable pub allDigits : List ℕ → Bool
+allDigits [] = true
+allDigits (c ∷ cs) = ltb (digitValue c) 16 && allDigits cs
+
+-- "the sum wrapping at 256"; the check byte is its wrapped negation
+unfoldable pub total : List ℕ → ℕ
+total [] = 0
+total (b ∷ bs) = (b + total bs) % 256
+
+unfoldable pub check : List ℕ → ℕ
+check bs = (256 - total bs) % 256
+
+-- The widths in bytes of each kind's fields: 00 start, 01 write, 02 session, 03 purge
+abbrev pub kinds : List (List ℕ)
+kinds = (1 ∷ []) ∷ (1 ∷ 4 ∷ 4 ∷ 1 ∷ []) ∷ (1 ∷ 1 ∷ 4 ∷ 4 ∷ 1 ∷ []) ∷ (1 ∷ []) ∷ []
+
+unfoldable pub widths : ℕ → List ℕ
+widths kind = getD kinds kind []
+
+abbrev pub summed : List ℕ → ℕ
+summed [] = 0
+summed (x ∷ xs) = x + summed xs
+
+-- the digits of a line of this kind: two for the kind, each byte of its fields and the check
+unfoldable pub digitsOf : ℕ → ℕ
+digitsOf kind = 2 * (summed (widths kind) + 2)
+
+-- "Numbers are high byte first."
+unfoldable pub highFirst : ℕ → ℕ → List ℕ
+highFirst zero v = []
+highFirst (suc k) v = highFirst k (v / 256) ++ (v % 256 ∷ [])
+
+unfoldable pub number : List ℕ → ℕ
+number [] = 0
+number (b ∷ bs) = b * 256 ^ length bs + number bs
+
+unfoldable pub packed : List ℕ → List ℕ → List ℕ
+packed [] vs = []
+packed (w ∷ ws) [] = []
+packed (w ∷ ws) (v ∷ vs) = highFirst w v ++ packed ws vs
+
+unfoldable pub unpacked : List ℕ → List ℕ → List ℕ
+unpacked [] bs = []
+unpacked (w ∷ ws) bs = number (take w bs) ∷ unpacked ws (drop w bs)
+
+-- A step's kind and fields, and the step of a kind and its fields
+abbrev pub kindOf : Action → ℕ
+kindOf (Write p t b v) = 1
+kindOf (Session a b ca cb o) = 2
+kindOf (Purge p) = 3
+
+abbrev pub fieldsOf : Action → List ℕ
+fieldsOf (Write p t b v) = p ∷ t ∷ b ∷ v ∷ []
+fieldsOf (Session a b ca cb o) = a ∷ b ∷ ca ∷ cb ∷ o ∷ []
+fieldsOf (Purge p) = p ∷ []
+
+unfoldable pub actionOf : ℕ → List ℕ → Action
+actionOf kind f =
+    cond (eqb kind 1) (Write (getD f 0 0) (getD f 1 0) (getD f 2 0) (getD f 3 0))
+    (cond (eqb kind 2) (Session (getD f 0 0) (getD f 1 0) (getD f 2 0) (getD f 3 0) (getD f 4 0)) (Purge (getD f 0 0)))
+
+-- "A frame is one line of uppercase hexadecimal, two digits a byte, ended by LF (byte 0A)." Its bytes, the check last
+unfoldable pub sealed : List ℕ → List ℕ
+sealed bs = bs ++ (check bs ∷ [])
+
+unfoldable pub frameOf : ℕ → List ℕ → List ℕ
+frameOf kind fields = spelled (sealed (kind ∷ packed (widths kind) fields)) ++ (10 ∷ [])
+
+unfoldable pub frame : Action → List ℕ
+frame x = frameOf (kindOf x) (fieldsOf x)
+
+unfoldable pub startFrame : ℕ → List ℕ
+startFrame n = frameOf 0 (n ∷ [])
+
+-- "[The fields] are as wide as in the frame."
+abbrev pub fit : List ℕ → List ℕ → Bool
+fit [] vs = true
+fit (w ∷ ws) [] = true
+fit (w ∷ ws) (v ∷ vs) = ltb v (256 ^ w) && fit ws vs
+
+unfoldable pub wide : Action → Bool
+wide x = fit (widths (kindOf x)) (fieldsOf x)
+
+-- The writer "refuses with 2 as above, then with 17 if the lent bytes are too few; it then writes nothing."
+unfoldable pub writerRefusal : List ℕ → Action → ℕ
+writerRefusal out x = given (outcomeAbove x) 2 (given (ltb (length out) (length (frame x))) 17 0)
+
+-- A start is refused with 15 for its n, as by the reader, then with 17.
+unfoldable pub starterRefusal : List ℕ → ℕ → ℕ
+starterRefusal out n = given (not (countRight n)) 15 (given (ltb (length out) (length (startFrame n))) 17 0)
+
+-- "Otherwise it writes the frame from place 0, reports its length (0 if refused) and changes nothing else."
+abbrev pub framed : ℕ → List ℕ → Framed
+framed zero f = Length (length f)
+framed (suc k) f = Unframed (suc k)
+
+unfoldable pub frameReply : List ℕ → Action → Framed
+frameReply out x = framed (writerRefusal out x) (frame x)
+
+unfoldable pub frameAfter : List ℕ → Action → List ℕ
+frameAfter out x = unless (writerRefusal out x) (place 0 (frame x) out) out
+
+unfoldable pub startReply : List ℕ → ℕ → Framed
+startReply out n = framed (starterRefusal out n) (startFrame n)
+
+unfoldable pub startAfter : List ℕ → ℕ → List ℕ
+startAfter out n = unless (starterRefusal out n) (place 0 (startFrame n) out) out
+
+abbrev pub framedValues : Framed → List ℕ
+framedValues (Length k) = 0 ∷ k ∷ []
+framedValues (Unframed k) = k ∷ 0 ∷ []
+
+-- A line's kind and fields, whatever its bytes
+unfoldable pub lineKind : List ℕ → ℕ
+lineKind bs = getD bs 0 0
+
+unfoldable pub lineFields : List ℕ → List ℕ
+lineFields bs = unpacked (widths (lineKind bs)) (drop 1 bs)
+
+-- Line refusals, the first that applies. The clauses of 11, one after the other: "the digits are none or odd in number, the kind is unknown,
+-- the length is not the kind's, or an outcome is above 3". Of 15 a single line can meet only "a start's n is not 2 to 16".
+unfoldable pub lineRefusal : List ℕ → ℕ
+lineRefusal l =
+    let bs = bytesOf l in
+    let kind = lineKind bs in
+    given (not (allDigits l)) 12
+    (given (eqb (length l % 2) 1 || eqb (length l) 0) 11
+    (given (leb (length kinds) kind) 11
+    (given (not (eqb (length l) (digitsOf kind))) 11
+    (given (eqb kind 2 && ltb 3 (getD (lineFields bs) 4 0)) 11
+    (given (not (eqb (total bs) 0)) 13
+    (given (eqb kind 0 && not (countRight (getD (lineFields bs) 0 0))) 15 0))))))
+
+-- What a line of these bytes says, where it is not refused; the step takes the line number that the reader is told
+abbrev pub meant : ℕ → List ℕ → Bool → Line
+meant line bs true = Begin (getD (lineFields bs) 0 0)
+meant line bs false = Act (record { line = line; action = actionOf (lineKind bs) (lineFields bs) })
+
+abbrev pub lineIs : ℕ → Line → Line
+lineIs zero x = x
+lineIs (suc k) x = Refused (suc k)
+
+unfoldable pub readLine : ℕ → List ℕ → Line
+readLine line l = lineIs (lineRefusal l) (meant line (bytesOf l) (eqb (lineKind (bytesOf l)) 0))
+
+-- Document 01's values of each answer: the refusal (0 for none), then the kind and the fields
+abbrev pub lineValues : Line → List ℕ
+lineValues (Begin n) = 0 ∷ 0 ∷ n ∷ []
+lineValues (Act s) = 0 ∷ kindOf (s .action) ∷ fieldsOf (s .action)
+lineValues (Refused k) = k ∷ []

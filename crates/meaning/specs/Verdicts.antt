@@ -1,0 +1,74 @@
+-- The verdict count. Document 01, "Verdict count".
+use mathlib.Core.Bool.{Bool, true, false, not, _&&_, _||_, cond}
+use mathlib.Core.List.{List, [], _∷_}
+use Prim.Native.Nat.{ℕ, zero, suc, _-_, _*_, _/_, _%_}
+use lib.ListN.{length}
+use lib.Dec.{leb, ltb, eqb}
+use Rattle.meaning.specs.declared.Record.{Record}
+use Rattle.meaning.specs.declared.Class.{Class}
+use Rattle.meaning.specs.declared.Class.the-variants.{NotRead, PageCache, PlatterGood, PlatterBad, Repaired, Reserved}
+use Rattle.meaning.specs.declared.Count.{Count}
+use Rattle.meaning.specs.declared.Count.the-variants.{Counted, Refused}
+use Rattle.meaning.specs.Rows.{given, every, keep, recordAt, records}
+use Rattle.meaning.specs.Table.{logMost, count, node, sound}
+
+-- "00–0F not read; 10–1F answered from page cache; 20–2F read from platter, good; 30–3F read from platter, bad;
+-- 40–4F repaired and read back; 50–FF reserved"
+unfoldable pub classOf : ℕ → Class
+classOf v =
+    cond (leb v 0x0f) NotRead
+    (cond (leb v 0x1f) PageCache
+    (cond (leb v 0x2f) PlatterGood
+    (cond (leb v 0x3f) PlatterBad
+    (cond (leb v 0x4f) Repaired Reserved))))
+
+-- "Scrubbed counts records of 10–4F, touched those of 20–4F."
+abbrev pub isScrubbed : Class → Bool
+isScrubbed NotRead = false
+isScrubbed PageCache = true
+isScrubbed PlatterGood = true
+isScrubbed PlatterBad = true
+isScrubbed Repaired = true
+isScrubbed Reserved = false
+
+abbrev pub isTouched : Class → Bool
+isTouched NotRead = false
+isTouched PageCache = false
+isTouched PlatterGood = true
+isTouched PlatterBad = true
+isTouched Repaired = true
+isTouched Reserved = false
+
+unfoldable pub scrubbed : List Record → ℕ
+scrubbed rs = length (keep (λ r. isScrubbed (classOf (r .verdict))) rs)
+
+unfoldable pub touched : List Record → ℕ
+touched rs = length (keep (λ r. isTouched (classOf (r .verdict))) rs)
+
+-- "The gap is the difference."
+unfoldable pub gap : List Record → ℕ
+gap rs = scrubbed rs - touched rs
+
+unfoldable pub counted : List Record → Count
+counted rs = Counted (scrubbed rs) (touched rs)
+
+-- "Over a lent list of 0 to 64 records of four words (else, or with a verdict above 255, refusal 1 and zero counts)"
+unfoldable pub countRefusal : List ℕ → ℕ
+countRefusal w =
+    given (not (eqb (length w % 4) 0) || ltb (4 * logMost) (length w)) 1
+    (given (not (every (length w / 4) (λ i. leb (recordAt w i .verdict) 255))) 1 0)
+
+abbrev pub countIs : ℕ → List Record → Count
+countIs zero rs = counted rs
+countIs (suc k) rs = Refused (suc k)
+
+unfoldable pub verdictCount : List ℕ → Count
+verdictCount w = countIs (countRefusal w) (records (length w / 4) w)
+
+-- The count over a node's log: 1 for a table that is not sound, then 3 for a node out of range
+unfoldable pub nodeCount : List ℕ → ℕ → Count
+nodeCount t p = countIs (given (not (sound t)) 1 (given (leb (count t) p) 3 0)) (node t p .log)
+
+abbrev pub countValues : Count → List ℕ
+countValues (Counted s t) = 0 ∷ s ∷ t ∷ []
+countValues (Refused k) = k ∷ 0 ∷ 0 ∷ []
