@@ -1,0 +1,175 @@
+-- Laws of records and their words, of `keep`, and of tests over a whole list.
+use mathlib.Core.Path.{_≡_, refl, sym, ap, _∙_}
+use mathlib.Core.Bool.{Bool, true, false, _&&_, false≢true, and-true}
+use mathlib.Core.List.{List, [], _∷_, _++_, append-assoc, append-nil}
+use Prim.Native.Nat.{ℕ, zero, suc, _+_, _-_, _*_, _≤_, _<_}
+use native.Mathlib.Nat.{mul-suc, add-zero, mul-zero}
+use native.Mathlib.Numerals.{add-one}
+use native.Mathlib.Omega.{arith}
+use native.Mathlib.Decide.{decLt}
+use lib.ListN.{length, getD, take, drop, length-append, List·getD-append}
+use lib.Seq.{ext-getD, getD-append-add, getD-append-seam, getD-take, getD-at}
+use Rattle.meaning.specs.declared.Record.{Record}
+use Rattle.meaning.specs.Rows.{every, keep, keepIf, recordAt, records, words}
+
+abbrev pub noRecord : Record
+noRecord = record { origin = 0; timestamp = 0; block = 0; verdict = 0 }
+
+-- f passes at each element of a list
+unfoldable pub all : {A : Type 0} → (A → Bool) → List A → Bool
+all f [] = true
+all f (x ∷ xs) = f x && all f xs
+
+pub and-assoc′ : (a b c : Bool) → (a && (b && c)) ≡ ((a && b) && c)
+and-assoc′ true b c = refl
+and-assoc′ false b c = refl
+
+pub and-left : (a b : Bool) → (a && b) ≡ true → a ≡ true
+and-left true b h = refl
+and-left false b h = h
+
+pub and-right : (a b : Bool) → (a && b) ≡ true → b ≡ true
+and-right true b h = h
+and-right false b h = absurd (false≢true h)
+
+pub and-both : (a b : Bool) → a ≡ true → b ≡ true → (a && b) ≡ true
+and-both a b p q = rw (p, q)
+
+module _ {A : Type 0} where
+  pub all-append : (f : A → Bool) (xs ys : List A) → all f (xs ++ ys) ≡ (all f xs && all f ys)
+  unfolding all
+  all-append f [] ys = refl
+  all-append f (x ∷ xs) ys = rw (all-append f xs ys) (and-assoc′ (f x) (all f xs) (all f ys))
+
+  pub all-keep : (f g : A → Bool) (xs : List A) → all f xs ≡ true → all f (keep g xs) ≡ true
+  unfolding all keep
+  all-keep f g [] h = refl
+  all-keep f g (x ∷ xs) h = go (g x) (and-left (f x) (all f xs) h) (all-keep f g xs (and-right (f x) (all f xs) h))
+    where
+      go : (b : Bool) → f x ≡ true → all f (keep g xs) ≡ true → all f (keepIf b x (keep g xs)) ≡ true
+      go true p q = and-both (f x) (all f (keep g xs)) p q
+      go false p q = q
+
+  pub length-keep : (f : A → Bool) (xs : List A) → length (keep f xs) ≤ length xs
+  unfolding keep
+  length-keep f [] = omega arith
+  length-keep f (x ∷ xs) = go (f x) (length-keep f xs)
+    where
+      go : (b : Bool) → length (keep f xs) ≤ length xs → length (keepIf b x (keep f xs)) ≤ suc (length xs)
+      go true h = omega arith
+      go false h = omega arith
+
+  pub keep-append : (f : A → Bool) (xs ys : List A) → keep f (xs ++ ys) ≡ keep f xs ++ keep f ys
+  unfolding keep
+  keep-append f [] ys = refl
+  keep-append f (x ∷ xs) ys = rw (keep-append f xs ys) (go (f x))
+    where
+      go : (b : Bool) → keepIf b x (keep f xs ++ keep f ys) ≡ keepIf b x (keep f xs) ++ keep f ys
+      go true = refl
+      go false = refl
+
+  pub keep-one : (f : A → Bool) (x : A) → keep f (x ∷ []) ≡ keepIf (f x) x []
+  unfolding keep
+  keep-one f x = refl
+
+-- the words of records
+pub length-words : (rs : List Record) → length (words rs) ≡ 4 * length rs
+unfolding words
+length-words [] = refl
+length-words (r ∷ rs) =
+    let h = length-words rs in
+    omega arith
+
+pub words-append : (xs ys : List Record) → words (xs ++ ys) ≡ words xs ++ words ys
+unfolding words
+words-append [] ys = refl
+words-append (r ∷ rs) ys = rw (words-append rs ys)
+
+pub length-records : (k : ℕ) (w : List ℕ) → length (records k w) ≡ k
+unfolding records
+length-records zero w = refl
+length-records (suc k) w =
+    let h = length-records k w in
+    let a = length-append (records k w) (recordAt w k ∷ []) in
+    omega arith
+
+pub getD-records : (k : ℕ) (w : List ℕ) (i : ℕ) → i < k → getD (records k w) i noRecord ≡ recordAt w i
+unfolding records
+getD-records zero w i h = absurd (omega arith)
+getD-records (suc k) w i h = go (getD-records k w i) (decLt i k)
+  where
+    go : (i < k → getD (records k w) i noRecord ≡ recordAt w i) → Dec (i < k) → getD (records k w ++ (recordAt w k ∷ [])) i noRecord ≡ recordAt w i
+    go ih (yes b) =
+        let l = length-records k w in
+        List·getD-append (records k w) (recordAt w k ∷ []) noRecord i (omega arith) ∙ ih b
+    go ih (no b) =
+        let e : k ≡ i = omega arith in
+        let l = length-records k w in
+        getD-at (records k w) (recordAt w k) [] noRecord i (omega arith) ∙ ap (recordAt w) e
+
+-- a record is told by its four words
+pub recordAt-agree : (w v : List ℕ) (i j : ℕ) → ((m : ℕ) → m < 4 → getD w (4 * i + m) 0 ≡ getD v (4 * j + m) 0) → recordAt w i ≡ recordAt v j
+unfolding recordAt
+recordAt-agree w v i j same =
+    let e₀ : getD w (4 * i) 0 ≡ getD v (4 * j) 0 = simp add-zero at (same 0 (omega arith)) in
+    let e₁ = same 1 (omega arith) in
+    let e₂ = same 2 (omega arith) in
+    let e₃ = same 3 (omega arith) in
+    λ d. record { origin = e₀ d; timestamp = e₁ d; block = e₂ d; verdict = e₃ d }
+
+pub records-agree : (k : ℕ) (w v : List ℕ) → ((m : ℕ) → m < 4 * k → getD w m 0 ≡ getD v m 0) → records k w ≡ records k v
+unfolding records
+records-agree zero w v same = refl
+records-agree (suc k) w v same =
+    let e = records-agree k w v (λ m h. same m (omega arith)) in
+    let e′ = recordAt-agree w v k k (λ m h. same (4 * k + m) (omega arith)) in
+    cc
+
+-- what was written as words is read as records
+recordAt-words : (rs : List Record) (w : List ℕ) (i : ℕ) → i < length rs → recordAt (words rs ++ w) i ≡ getD rs i noRecord
+unfolding words recordAt
+recordAt-words [] w i h = absurd (omega arith)
+recordAt-words (r ∷ rs) w zero h = refl
+recordAt-words (r ∷ rs) w (suc i) h =
+    recordAt-agree (words (r ∷ rs) ++ w) (words rs ++ w) (suc i) i
+    (λ m b.
+      ap (λ (k : ℕ). getD (words (r ∷ rs) ++ w) k 0) (next i m) ∙ refl) ∙
+    recordAt-words rs w i (omega arith)
+  where
+    next : (i m : ℕ) → 4 * suc i + m ≡ suc (suc (suc (suc (4 * i + m))))
+    next i m = omega arith
+
+pub records-words : (rs : List Record) (w : List ℕ) → records (length rs) (words rs ++ w) ≡ rs
+records-words rs w =
+    let l = length-records (length rs) (words rs ++ w) in
+    ext-getD noRecord (records (length rs) (words rs ++ w)) rs l
+    (λ i h. getD-records (length rs) (words rs ++ w) i (omega arith) ∙ recordAt-words rs w i (omega arith))
+
+-- a test at each row is a test of each record
+all-one : (f : Record → Bool) (r : Record) → all f (r ∷ []) ≡ f r
+unfolding all
+all-one f r = and-true (f r)
+
+pub every-records : (k : ℕ) (f : Record → Bool) (w : List ℕ) → every k (λ i. f (recordAt w i)) ≡ all f (records k w)
+unfolding every records all
+every-records zero f w = refl
+every-records (suc k) f w =
+    ap (λ (b : Bool). b && f (recordAt w k)) (every-records k f w) ∙
+    sym (all-append f (records k w) (recordAt w k ∷ []) ∙ ap (λ (b : Bool). all f (records k w) && b) (all-one f (recordAt w k)))
+
+-- what passes at each number below n passes at each of them, and the other way round
+pub every-at : (n : ℕ) (f : ℕ → Bool) → every n f ≡ true → (i : ℕ) → i < n → f i ≡ true
+unfolding every
+every-at zero f h i b = absurd (omega arith)
+every-at (suc n) f h i b = go (every-at n f (and-left (every n f) (f n) h) i) (decLt i n)
+  where
+    go : (i < n → f i ≡ true) → Dec (i < n) → f i ≡ true
+    go ih (yes c) = ih c
+    go ih (no c) =
+        let e : n ≡ i = omega arith in
+        rw e at (and-right (every n f) (f n) h)
+
+pub every-all : (n : ℕ) (f : ℕ → Bool) → ((i : ℕ) → i < n → f i ≡ true) → every n f ≡ true
+unfolding every
+every-all zero f h = refl
+every-all (suc n) f h = and-both (every n f) (f n) (every-all n f (λ i b. h i (omega arith))) (h n (omega arith))
