@@ -1,3 +1,4 @@
 pub mod Edges
 pub mod PlaceLaws
 pub mod RowLaws
+pub mod TableLaws
