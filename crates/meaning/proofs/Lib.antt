@@ -2,3 +2,4 @@ pub mod Edges
 pub mod PlaceLaws
 pub mod RowLaws
 pub mod TableLaws
+pub mod StepLaws

@@ -60,8 +60,8 @@ part-same at ys t k e fits =
     ext-getD 0 (part at k (place at ys t)) ys
     (length-part at k (place at ys t) (rw (length-place at ys t fits) (omega arith)) ∙ e)
     (λ i h.
-      let l : length (part at k (place at ys t)) ≡ k = length-part at k (place at ys t) (rw (length-place at ys t fits) (omega arith)) in
-      getD-part at k (place at ys t) i (at + i) refl (omega arith) ∙ getD-within at ys t fits i (at + i) refl (omega arith))
+    let l : length (part at k (place at ys t)) ≡ k = length-part at k (place at ys t) (rw (length-place at ys t fits) (omega arith)) in
+    getD-part at k (place at ys t) i (at + i) refl (omega arith) ∙ getD-within at ys t fits i (at + i) refl (omega arith))
 
 -- a part that lies apart from what was put is as it was
 pub part-away : (a k at : ℕ) (ys t : List ℕ) → at + length ys ≤ length t → a + k ≤ length t → (a < at + length ys → at < a + k → ⊥) → part a k (place at ys t) ≡ part a k t
@@ -71,8 +71,8 @@ part-away a k at ys t fits fit′ apart =
     let l′ : length (part a k t) ≡ k = length-part a k t fit′ in
     ext-getD 0 (part a k (place at ys t)) (part a k t) (l ∙ sym l′)
     (λ i h.
-      let h′ : i < k = omega arith in
-      getD-part a k (place at ys t) i (a + i) refl h′ ∙ entry i h′ ∙ sym (getD-part a k t i (a + i) refl h′))
+    let h′ : i < k = omega arith in
+    getD-part a k (place at ys t) i (a + i) refl h′ ∙ entry i h′ ∙ sym (getD-part a k t i (a + i) refl h′))
   where
     entry : (i : ℕ) → i < k → getD (place at ys t) (a + i) 0 ≡ getD t (a + i) 0
     entry i h = go (decLt (a + i) at) (decLe (at + length ys) (a + i))
@@ -84,13 +84,13 @@ part-away a k at ys t fits fit′ apart =
 
 -- a list that agrees with ys from `at` on and with t elsewhere is t with ys put there
 pub place-is :
-  (at : ℕ) (ys t u : List ℕ) →
-  at + length ys ≤ length t →
-  length u ≡ length t →
-  ((i : ℕ) → i < at → getD u i 0 ≡ getD t i 0) →
-  ((i j : ℕ) → j ≡ at + i → i < length ys → getD u j 0 ≡ getD ys i 0) →
-  ((i : ℕ) → at + length ys ≤ i → getD u i 0 ≡ getD t i 0) →
-  u ≡ place at ys t
+    (at : ℕ) (ys t u : List ℕ) →
+    at + length ys ≤ length t →
+    length u ≡ length t →
+    ((i : ℕ) → i < at → getD u i 0 ≡ getD t i 0) →
+    ((i j : ℕ) → j ≡ at + i → i < length ys → getD u j 0 ≡ getD ys i 0) →
+    ((i : ℕ) → at + length ys ≤ i → getD u i 0 ≡ getD t i 0) →
+    u ≡ place at ys t
 place-is at ys t u fits long before within beyond =
     let lp : length (place at ys t) ≡ length t = length-place at ys t fits in
     ext-getD 0 u (place at ys t) (long ∙ sym lp) (λ i h. go i (decLt i at) (decLe (at + length ys) i))
@@ -134,10 +134,10 @@ place-append at next xs ys t e fits =
     (λ i b. getD-beyond next ys (place at xs t) fy i (omega arith) ∙ getD-beyond at xs t fx i (omega arith))
   where
     go :
-      at + length xs ≤ length t →
-      next + length ys ≤ length (place at xs t) →
-      length (xs ++ ys) ≡ length xs + length ys →
-      (i j : ℕ) → j ≡ at + i → i < length (xs ++ ys) → Dec (i < length xs) → getD (place next ys (place at xs t)) j 0 ≡ getD (xs ++ ys) i 0
+        at + length xs ≤ length t →
+        next + length ys ≤ length (place at xs t) →
+        length (xs ++ ys) ≡ length xs + length ys →
+        (i j : ℕ) → j ≡ at + i → i < length (xs ++ ys) → Dec (i < length xs) → getD (place next ys (place at xs t)) j 0 ≡ getD (xs ++ ys) i 0
     go fx fy la i j f b (yes w) =
         getD-before next ys (place at xs t) fy j (omega arith) ∙ getD-within at xs t fx i j f w ∙ sym (List·getD-append xs ys 0 i w)
     go fx fy la i j f b (no w) =
@@ -159,11 +159,11 @@ place-over at xs ys t le fits =
 
 -- lists put apart from each other, in either order
 pub place-comm :
-  (a b : ℕ) (xs ys t : List ℕ) →
-  a + length xs ≤ length t →
-  b + length ys ≤ length t →
-  (a < b + length ys → b < a + length xs → ⊥) →
-  place a xs (place b ys t) ≡ place b ys (place a xs t)
+    (a b : ℕ) (xs ys t : List ℕ) →
+    a + length xs ≤ length t →
+    b + length ys ≤ length t →
+    (a < b + length ys → b < a + length xs → ⊥) →
+    place a xs (place b ys t) ≡ place b ys (place a xs t)
 place-comm a b xs ys t fx fy apart =
     let lx : length (place a xs t) ≡ length t = length-place a xs t fx in
     let ly : length (place b ys t) ≡ length t = length-place b ys t fy in
@@ -173,14 +173,14 @@ place-comm a b xs ys t fx fy apart =
     (length-place a xs (place b ys t) fx′ ∙ ly ∙ sym lx)
     (λ i h. other fx fy fx′ i (omega arith))
     (λ i j e h.
-      getD-away j a xs (place b ys t) fx′ (λ p q. apart (omega arith) (omega arith)) ∙ getD-within b ys t fy i j e h)
+    getD-away j a xs (place b ys t) fx′ (λ p q. apart (omega arith) (omega arith)) ∙ getD-within b ys t fy i j e h)
     (λ i h. other fx fy fx′ i (omega arith))
   where
     other :
-      a + length xs ≤ length t →
-      b + length ys ≤ length t →
-      a + length xs ≤ length (place b ys t) →
-      (i : ℕ) → (b ≤ i → i < b + length ys → ⊥) → getD (place a xs (place b ys t)) i 0 ≡ getD (place a xs t) i 0
+        a + length xs ≤ length t →
+        b + length ys ≤ length t →
+        a + length xs ≤ length (place b ys t) →
+        (i : ℕ) → (b ≤ i → i < b + length ys → ⊥) → getD (place a xs (place b ys t)) i 0 ≡ getD (place a xs t) i 0
     other fx fy fx′ i out = go (decLt i a) (decLe (a + length xs) i)
       where
         under : getD (place b ys t) i 0 ≡ getD t i 0
@@ -207,10 +207,10 @@ place-inner at k i j ys t e fits fit′ =
     (λ m h. getD-beyond j ys t (omega arith) m (omega arith)))
   where
     inside :
-      i + length ys ≤ length (part at k t) →
-      length (part at k t) ≡ k →
-      length (place i ys (part at k t)) ≡ k →
-      (m o : ℕ) → o ≡ at + m → m < k → Dec (m < i) → Dec (i + length ys ≤ m) → getD (place j ys t) o 0 ≡ getD (place i ys (part at k t)) m 0
+        i + length ys ≤ length (part at k t) →
+        length (part at k t) ≡ k →
+        length (place i ys (part at k t)) ≡ k →
+        (m o : ℕ) → o ≡ at + m → m < k → Dec (m < i) → Dec (i + length ys ≤ m) → getD (place j ys t) o 0 ≡ getD (place i ys (part at k t)) m 0
     inside fi lp lq m o f h (yes b) w =
         getD-before j ys t (omega arith) o (omega arith) ∙ sym (getD-before i ys (part at k t) fi m b ∙ getD-part at k t m o f h)
     inside fi lp lq m o f h (no b) (yes w) =

@@ -133,7 +133,7 @@ recordAt-words (r ∷ rs) w zero h = refl
 recordAt-words (r ∷ rs) w (suc i) h =
     recordAt-agree (words (r ∷ rs) ++ w) (words rs ++ w) (suc i) i
     (λ m b.
-      ap (λ (k : ℕ). getD (words (r ∷ rs) ++ w) k 0) (next i m) ∙ refl) ∙
+    ap (λ (k : ℕ). getD (words (r ∷ rs) ++ w) k 0) (next i m) ∙ refl) ∙
     recordAt-words rs w i (omega arith)
   where
     next : (i m : ℕ) → 4 * suc i + m ≡ suc (suc (suc (suc (4 * i + m))))

@@ -11,11 +11,36 @@ use lib.Dec.{leb, ltb, eqb}
 use Rattle.meaning.specs.declared.Record.{Record}
 use Rattle.meaning.specs.Rows.{every, recordAt, records, words}
 use Rattle.meaning.specs.Table.{
-  Node, tableWords, nodesMost, logMost, countAt, summaryAt, acksAt, heldAt, logAt, part, place, count, held, node, putNode, fresh, countRight,
-  recordSound, logSound, sound
+  Node,
+  tableWords,
+  nodesMost,
+  logMost,
+  countAt,
+  summaryAt,
+  acksAt,
+  heldAt,
+  logAt,
+  part,
+  place,
+  count,
+  held,
+  node,
+  putNode,
+  fresh,
+  countRight,
+  recordSound,
+  logSound,
+  sound,
 }
 use Rattle.meaning.proofs.PlaceLaws.{
-  length-place, getD-away, getD-within, getD-part, length-part, part-same, part-away, place-append
+  length-place,
+  getD-away,
+  getD-within,
+  getD-part,
+  length-part,
+  part-same,
+  part-away,
+  place-append,
 }
 use Rattle.meaning.proofs.RowLaws.{all, and-left, and-right, and-both, every-records, every-at, every-all, length-records, length-words, records-agree, records-words, getD-records}
 
@@ -57,10 +82,10 @@ sound-facts t h =
       low = leb-true 2 (count t) (and-left (leb 2 (count t)) (leb (count t) nodesMost) c);
       high = leb-true (count t) nodesMost (and-right (leb 2 (count t)) (leb (count t) nodesMost) c);
       room = λ p q.
-        leb-true (held t p) logMost
-        (and-left (leb (held t p) logMost) (all (recordSound (count t)) (node t p .log)) (sym (logSound-is t p) ∙ every-at (count t) (logSound t) e p q));
+          leb-true (held t p) logMost
+          (and-left (leb (held t p) logMost) (all (recordSound (count t)) (node t p .log)) (sym (logSound-is t p) ∙ every-at (count t) (logSound t) e p q));
       right = λ p q.
-        and-right (leb (held t p) logMost) (all (recordSound (count t)) (node t p .log)) (sym (logSound-is t p) ∙ every-at (count t) (logSound t) e p q);
+          and-right (leb (held t p) logMost) (all (recordSound (count t)) (node t p .log)) (sym (logSound-is t p) ∙ every-at (count t) (logSound t) e p q);
     }
 
 pub facts-sound : (t : List ℕ) → Sound t → sound t ≡ true
@@ -71,8 +96,8 @@ facts-sound t s =
     (and-both (leb 2 (count t)) (leb (count t) nodesMost) (le-leb 2 (count t) (s .low)) (le-leb (count t) nodesMost (s .high)))
     (every-all (count t) (logSound t)
     (λ p q.
-      logSound-is t p ∙
-      and-both (leb (held t p) logMost) (all (recordSound (count t)) (node t p .log)) (le-leb (held t p) logMost (s .room p q)) (s .right p q))))
+    logSound-is t p ∙
+    and-both (leb (held t p) logMost) (all (recordSound (count t)) (node t p .log)) (le-leb (held t p) logMost (s .room p q)) (s .right p q))))
 
 pub node-shaped : (t : List ℕ) → Sound t → (p : ℕ) → p < count t → Shaped (count t) (node t p)
 unfolding node
@@ -83,9 +108,9 @@ node-shaped t s p h =
       summaryLong = length-part (summaryAt p) (count t) t (omega arith);
       acksLong = length-part (acksAt p) (count t) t (omega arith);
       logShort =
-        let r = s .room p h in
-        let e = log-length t p in
-        omega arith;
+          let r = s .room p h in
+          let e = log-length t p in
+          omega arith;
     }
 
 -- The words of a node's log as `putNode` writes them
@@ -156,12 +181,12 @@ module _ (t : List ℕ) (long : length t ≡ tableWords) (n : ℕ) (high : n ≤
 
   -- a part that meets none of the four is as it was
   pub put-part-away :
-    (a k : ℕ) → a + k ≤ tableWords →
-    (a < summaryAt p + n → summaryAt p < a + k → ⊥) →
-    (a < acksAt p + n → acksAt p < a + k → ⊥) →
-    (a < heldAt p + 1 → heldAt p < a + k → ⊥) →
-    (a < logAt p + 4 * logMost → logAt p < a + k → ⊥) →
-    part a k (putNode p x t) ≡ part a k t
+      (a k : ℕ) → a + k ≤ tableWords →
+      (a < summaryAt p + n → summaryAt p < a + k → ⊥) →
+      (a < acksAt p + n → acksAt p < a + k → ⊥) →
+      (a < heldAt p + 1 → heldAt p < a + k → ⊥) →
+      (a < logAt p + 4 * logMost → logAt p < a + k → ⊥) →
+      part a k (putNode p x t) ≡ part a k t
   unfolding put₃ put₂ put₁
   put-part-away a k within h₄ h₃ h₂ h₁ =
       let e₄ = fits .summaryLong in
@@ -175,12 +200,12 @@ module _ (t : List ℕ) (long : length t ≡ tableWords) (n : ℕ) (high : n ≤
 
   -- a word that meets none of the four is as it was
   pub put-word-away :
-    (i : ℕ) →
-    (i < summaryAt p + n → summaryAt p ≤ i → ⊥) →
-    (i < acksAt p + n → acksAt p ≤ i → ⊥) →
-    (i < heldAt p + 1 → heldAt p ≤ i → ⊥) →
-    (i < logAt p + 4 * logMost → logAt p ≤ i → ⊥) →
-    getD (putNode p x t) i 0 ≡ getD t i 0
+      (i : ℕ) →
+      (i < summaryAt p + n → summaryAt p ≤ i → ⊥) →
+      (i < acksAt p + n → acksAt p ≤ i → ⊥) →
+      (i < heldAt p + 1 → heldAt p ≤ i → ⊥) →
+      (i < logAt p + 4 * logMost → logAt p ≤ i → ⊥) →
+      getD (putNode p x t) i 0 ≡ getD t i 0
   unfolding put₃ put₂ put₁
   put-word-away i h₄ h₃ h₂ h₁ =
       let e₄ = fits .summaryLong in
@@ -219,18 +244,18 @@ module _ (t : List ℕ) (long : length t ≡ tableWords) (n : ℕ) (high : n ≤
       let e₃ = fits .acksLong in
       let e₁ = length-logWords p x t (fits .logShort) room in
       let s : part (summaryAt p) (count (putNode p x t)) (putNode p x t) ≡ x .summary =
-        rw put-is (part-same (summaryAt p) (x .summary) put₃ (count (place (summaryAt p) (x .summary) put₃)) (sym (ap count put-is) ∙ put-count ∙ c ∙ sym e₄) fit₄)
+      rw put-is (part-same (summaryAt p) (x .summary) put₃ (count (place (summaryAt p) (x .summary) put₃)) (sym (ap count put-is) ∙ put-count ∙ c ∙ sym e₄) fit₄)
       in
       let k : part (acksAt p) (count (putNode p x t)) (putNode p x t) ≡ x .acks =
-        ap (λ (m : ℕ). part (acksAt p) m (putNode p x t)) (put-count ∙ c ∙ sym e₃) ∙
-        rw put-is
-        (part-away (acksAt p) (length (x .acks)) (summaryAt p) (x .summary) put₃ fit₄ (let l = long₃ in omega arith) (λ u v. omega arith) ∙
-        part-same (acksAt p) (x .acks) put₂ (length (x .acks)) refl fit₃)
+      ap (λ (m : ℕ). part (acksAt p) m (putNode p x t)) (put-count ∙ c ∙ sym e₃) ∙
+      rw put-is
+      (part-away (acksAt p) (length (x .acks)) (summaryAt p) (x .summary) put₃ fit₄ (let l = long₃ in omega arith) (λ u v. omega arith) ∙
+      part-same (acksAt p) (x .acks) put₂ (length (x .acks)) refl fit₃)
       in
       let g : records (held (putNode p x t) p) (part (logAt p) (4 * logMost) (putNode p x t)) ≡ x .log =
-        ap (λ (m : ℕ). records m (part (logAt p) (4 * logMost) (putNode p x t))) put-held ∙
-        records-agree (length (x .log)) (part (logAt p) (4 * logMost) (putNode p x t)) (words (x .log) ++ []) agree ∙
-        records-words (x .log) []
+      ap (λ (m : ℕ). records m (part (logAt p) (4 * logMost) (putNode p x t))) put-held ∙
+      records-agree (length (x .log)) (part (logAt p) (4 * logMost) (putNode p x t)) (words (x .log) ++ []) agree ∙
+      records-words (x .log) []
       in
       λ i. record { summary = s i; acks = k i; log = g i }
     where
@@ -255,23 +280,23 @@ module _ (t : List ℕ) (long : length t ≡ tableWords) (n : ℕ) (high : n ≤
   unfolding node
   node-other c q h other =
       let s : part (summaryAt q) (count (putNode p x t)) (putNode p x t) ≡ part (summaryAt q) (count t) t =
-        rw put-count
-        (put-part-away (summaryAt q) (count t) (omega arith) (λ u v. other (omega arith)) (λ u v. omega arith) (λ u v. omega arith) (λ u v. omega arith))
+      rw put-count
+      (put-part-away (summaryAt q) (count t) (omega arith) (λ u v. other (omega arith)) (λ u v. omega arith) (λ u v. omega arith) (λ u v. omega arith))
       in
       let k : part (acksAt q) (count (putNode p x t)) (putNode p x t) ≡ part (acksAt q) (count t) t =
-        rw put-count
-        (put-part-away (acksAt q) (count t) (omega arith) (λ u v. omega arith) (λ u v. other (omega arith)) (λ u v. omega arith) (λ u v. omega arith))
+      rw put-count
+      (put-part-away (acksAt q) (count t) (omega arith) (λ u v. omega arith) (λ u v. other (omega arith)) (λ u v. omega arith) (λ u v. omega arith))
       in
       let g : records (held (putNode p x t) q) (part (logAt q) (4 * logMost) (putNode p x t)) ≡ records (held t q) (part (logAt q) (4 * logMost) t) =
-        rw (put-held-other q h other)
-        (ap (records (held t q))
-        (put-part-away (logAt q) (4 * logMost) (omega arith) (λ u v. omega arith) (λ u v. omega arith) (λ u v. omega arith) (λ u v. other (omega arith))))
+      rw (put-held-other q h other)
+      (ap (records (held t q))
+      (put-part-away (logAt q) (4 * logMost) (omega arith) (λ u v. omega arith) (λ u v. omega arith) (λ u v. omega arith) (λ u v. other (omega arith))))
       in
       λ i. record { summary = s i; acks = k i; log = g i }
 
 -- a sound table stays sound when a node is put that fits it and whose records are right
 pub sound-put :
-  (t : List ℕ) → Sound t → (p : ℕ) → p < count t → (x : Node) → Shaped (count t) x → all (recordSound (count t)) (x .log) ≡ true → Sound (putNode p x t)
+    (t : List ℕ) → Sound t → (p : ℕ) → p < count t → (x : Node) → Shaped (count t) x → all (recordSound (count t)) (x .log) ≡ true → Sound (putNode p x t)
 sound-put t s p h x fits records =
     record {
       long = put-long t l n hi p b x fits r;
