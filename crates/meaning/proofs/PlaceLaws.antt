@@ -2,13 +2,13 @@
 use mathlib.Core.Path.{_≡_, refl, sym, ap, _∙_}
 use mathlib.Core.List.{List, [], _∷_, _++_, append-assoc, append-nil}
 use Prim.Native.Nat.{ℕ, zero, suc, _+_, _-_, _*_, _≤_, _<_, min}
-use native.Mathlib.Nat.{add-assoc, add-zero}
+use native.Mathlib.Nat.{add-zero, zero-add}
 use native.Mathlib.Numerals.{add-one}
 use native.Mathlib.Omega.{arith}
 use native.Mathlib.Decide.{decLe, decLt}
-use lib.ListN.{length, getD, take, drop, set, length-append, length-take, length-drop, List·getD-append}
+use lib.ListN.{length, getD, take, drop, set, length-append, length-take, length-drop, List·getD-append, take-append-drop}
 use lib.Seq.{getD-take, getD-drop, getD-append-add, ext-getD, length-take-le, take-append-seam, drop-at, drop-drop, take-take, drop-cons, take-suc}
-use lib.Seq.{set-split, take-length, take-add, drop-append-add, take-append-add}
+use lib.Seq.{set-split, drop-length}
 use Rattle.meaning.specs.Table.{part, place}
 
 module _ (at : ℕ) (ys t : List ℕ) (fits : at + length ys ≤ length t) where
@@ -223,3 +223,17 @@ place-inner at k i j ys t e fits fit′ =
 pub set-place : (t : List ℕ) (i v : ℕ) → i < length t → set t i v ≡ place i (v ∷ []) t
 unfolding place
 set-place t i v h = set-split t i v h ∙ ap (λ (m : ℕ). take i t ++ (v ∷ drop m t)) (sym (add-one i))
+
+-- what the whole list is when a part of it that was lent comes back as ys
+pub mid-place : (a k : ℕ) (xs ys : List ℕ) → length ys ≡ k → take a xs ++ (ys ++ drop k (drop a xs)) ≡ place a ys xs
+unfolding place
+mid-place a k xs ys e = ap (λ (r : List ℕ). take a xs ++ (ys ++ r)) (drop-drop k a xs ∙ ap (λ (m : ℕ). drop (a + m) xs) (sym e))
+
+-- nothing put, and everything put
+pub place-none : (at : ℕ) (t : List ℕ) → place at [] t ≡ t
+unfolding place
+place-none at t = ap (λ (m : ℕ). take at t ++ drop m t) (add-zero at) ∙ take-append-drop at t
+
+pub place-all : (ys t : List ℕ) → length ys ≡ length t → place 0 ys t ≡ ys
+unfolding place
+place-all ys t e = ap (λ (m : ℕ). ys ++ drop m t) (zero-add (length ys) ∙ e) ∙ ap (λ (r : List ℕ). ys ++ r) (drop-length t) ∙ append-nil ys

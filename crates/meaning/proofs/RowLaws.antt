@@ -2,15 +2,15 @@
 use mathlib.Core.Path.{_≡_, refl, sym, ap, _∙_}
 use mathlib.Core.Bool.{Bool, true, false, _&&_, false≢true, and-true}
 use mathlib.Core.List.{List, [], _∷_, _++_, append-assoc, append-nil}
-use Prim.Native.Nat.{ℕ, zero, suc, _+_, _-_, _*_, _≤_, _<_}
-use native.Mathlib.Nat.{mul-suc, add-zero, mul-zero}
+use Prim.Native.Nat.{ℕ, zero, suc, _+_, _-_, _*_, _≤_, _<_, min, max}
+use native.Mathlib.Nat.{add-zero}
 use native.Mathlib.Numerals.{add-one}
 use native.Mathlib.Omega.{arith}
 use native.Mathlib.Decide.{decLt}
 use lib.ListN.{length, getD, take, drop, length-append, List·getD-append}
-use lib.Seq.{ext-getD, getD-append-add, getD-append-seam, getD-take, getD-at}
+use lib.Seq.{ext-getD, getD-append-add, getD-append-seam, getD-take, getD-at, take-suc}
 use Rattle.meaning.specs.declared.Record.{Record}
-use Rattle.meaning.specs.Rows.{every, keep, keepIf, recordAt, records, words}
+use Rattle.meaning.specs.Rows.{every, keep, keepIf, least, raise, recordAt, records, words}
 
 abbrev pub noRecord : Record
 noRecord = record { origin = 0; timestamp = 0; block = 0; verdict = 0 }
@@ -173,3 +173,34 @@ pub every-all : (n : ℕ) (f : ℕ → Bool) → ((i : ℕ) → i < n → f i �
 unfolding every
 every-all zero f h = refl
 every-all (suc n) f h = and-both (every n f) (f n) (every-all n f (λ i b. h i (omega arith))) (h n (omega arith))
+
+-- the smallest entry and the raised row, one entry more
+min-assoc : (a b c : ℕ) → min a (min b c) ≡ min (min a b) c
+min-assoc a b c = omega arith
+
+least-snoc : (x : ℕ) (xs : List ℕ) (y : ℕ) → least ((x ∷ xs) ++ (y ∷ [])) ≡ min (least (x ∷ xs)) y
+unfolding least
+least-snoc x [] y = refl
+least-snoc x (z ∷ zs) y = ap (min x) (least-snoc z zs y) ∙ min-assoc x (least (z ∷ zs)) y
+
+pub least-take : (xs : List ℕ) (i : ℕ) → 0 < i → i < length xs → least (take (suc i) xs) ≡ min (least (take i xs)) (getD xs i 0)
+least-take [] i h g = absurd (omega arith)
+least-take (x ∷ xs) zero h g = absurd (omega arith)
+least-take (x ∷ xs) (suc i) h g =
+    ap (λ (l : List ℕ). least (x ∷ l)) (take-suc xs i 0 (omega arith)) ∙ least-snoc x (take i xs) (getD xs i 0)
+
+pub raise-take :
+  (xs ys : List ℕ) (i : ℕ) → i < length xs → i < length ys →
+  raise (take (suc i) xs) (take (suc i) ys) ≡ raise (take i xs) (take i ys) ++ (max (getD xs i 0) (getD ys i 0) ∷ [])
+unfolding raise
+raise-take [] ys i h g = absurd (omega arith)
+raise-take (x ∷ xs) [] i h g = absurd (omega arith)
+raise-take (x ∷ xs) (y ∷ ys) zero h g = refl
+raise-take (x ∷ xs) (y ∷ ys) (suc i) h g = ap (λ (r : List ℕ). max x y ∷ r) (raise-take xs ys i (omega arith) (omega arith))
+
+pub length-raise : (xs ys : List ℕ) (n : ℕ) → length xs ≡ n → length ys ≡ n → length (raise xs ys) ≡ n
+unfolding raise
+length-raise [] ys n p q = p
+length-raise (x ∷ xs) [] n p q = absurd (omega arith)
+length-raise (x ∷ xs) (y ∷ ys) zero p q = absurd (omega arith)
+length-raise (x ∷ xs) (y ∷ ys) (suc n) p q = ap suc (length-raise xs ys n (omega arith) (omega arith))

@@ -15,7 +15,7 @@ use Rattle.meaning.specs.Rows.{given, keep, raise, least, newer, above, 
 use Rattle.meaning.specs.Table.{Node, tableWords, nodesMost, logMost, heldAt, logAt, part, count, held, node, putNode, fresh, recordSound, sound}
 use Rattle.meaning.specs.Node.{own, wrote, opened, finished, ended, purged}
 use Rattle.meaning.specs.Steps.{finishesA, finishesB, outcomeAbove, nodeAbsent, nodeTwice, clockBack, overfull, noRoom, refusal, acted, after}
-use Rattle.meaning.proofs.RowLaws.{all, all-append, all-keep, length-keep, and-both, length-records}
+use Rattle.meaning.proofs.RowLaws.{all, all-append, all-keep, length-keep, and-both, length-raise}
 use Rattle.meaning.proofs.TableLaws.{Sound, Shaped, sound-facts, facts-sound, sound-put, node-shaped, node-same, node-other, put-count, put-long, put-held-other}
 
 -- Refusals in order: none is given only where no test passes
@@ -60,13 +60,6 @@ or-right true b h = absurd (true≢false h)
 or-right false b h = h
 
 -- A node that each action leaves fits the table
-pub length-raise : (xs ys : List ℕ) (n : ℕ) → length xs ≡ n → length ys ≡ n → length (raise xs ys) ≡ n
-unfolding raise
-length-raise [] ys n p q = p
-length-raise (x ∷ xs) [] n p q = absurd (omega arith)
-length-raise (x ∷ xs) (y ∷ ys) zero p q = absurd (omega arith)
-length-raise (x ∷ xs) (y ∷ ys) (suc n) p q = ap suc (length-raise xs ys n (omega arith) (omega arith))
-
 module _ (n : ℕ) (x : Node) (fits : Shaped n x) where
   pub opened-shaped : (p c : ℕ) → Shaped n (opened p c x)
   unfolding opened

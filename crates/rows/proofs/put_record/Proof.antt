@@ -1,0 +1,57 @@
+-- `rows::put_record` meets its contract: the part that was lent comes back as the record's words.
+use mathlib.Core.Path.{_≡_, refl, ap, sym, _∙_}
+use mathlib.Core.List.{[], _∷_}
+use Prim.Native.Nat.{ℕ, _+_, _-_, _≤_}
+use native.Mathlib.Omega.{arith}
+use lib.ListN.{length}
+use Rattle.meaning.specs.Rows.{words}
+use Rattle.meaning.proofs.PlaceLaws.{mid-place}
+use Rattle.meaning.proofs.RowLaws.{length-words}
+use borrow.Author.Needs.{needs}
+use Rattle.rows.proofs.put_record.Statement.{statement}
+use Rattle.rows.proofs.put_record.Tie as tie
+use Rattle.rows.proofs.put_record.Reads as reads
+use Rattle.rows.proofs.put_record.Lts as lts
+use Rattle.rows.proofs.fill_record.Reads as fill-record-reads
+
+add-end : tie.Need-add-end
+add-end c = search needs
+
+mul-fill-record : tie.Need-mul-fill-record
+mul-fill-record c = search needs
+
+sub-fill-record : tie.Need-sub-fill-record
+sub-fill-record c = search needs
+
+part-fill-record-start : tie.Need-part-fill-record-start
+part-fill-record-start c = search needs
+
+part-fill-record-end : tie.Need-part-fill-record-end
+part-fill-record-end c = search needs
+
+fill-record-requires : tie.Need-fill-record-requires
+fill-record-requires c κs = search needs
+
+same-length : tie.Need-same-length
+same-length c = search needs
+
+returns : tie.Need-returns
+returns c =
+    let r = c .before .before .before .before .before .args .r in
+    let e : c .before .before .fill-record .last .0 ≡ words (r ∷ []) = c .before .before .fill-record .ensures in
+    let l = length-words (r ∷ []) in
+    let k : length (c .before .before .fill-record .last .0) ≡ (c .before .before .before .before .before .args .at + 4) - c .before .before .before .before .before .args .at = ap length e ∙ omega arith in
+    mid-place (c .before .before .before .before .before .args .at) ((c .before .before .before .before .before .args .at + 4) - c .before .before .before .before .before .args .at) (c .before .before .before .before .before .args .t .now) (c .before .before .fill-record .last .0) k ∙ ap (λ (ys : mathlib.Core.List.List ℕ). Rattle.meaning.specs.Table.place (c .before .before .before .before .before .args .at) ys (c .before .before .before .before .before .args .t .now)) e
+
+pub put-record-spec : {M : Type 1} → statement M
+put-record-spec =
+    tie.close
+    (tie.spec
+    add-end
+    mul-fill-record
+    sub-fill-record
+    part-fill-record-start
+    part-fill-record-end
+    fill-record-requires
+    same-length
+    returns)

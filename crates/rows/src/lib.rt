@@ -1,0 +1,87 @@
+// Leaves over one row of numbers, one log or a few words of a table, lent as a part that starts anywhere.
+// They know no offset: where a row stands is the caller's to say. Inner functions: what they require, the table's code shows.
+ghost use mathlib.Core.Path.{_≡_};
+ghost use mathlib.Core.List.{[], _∷_, _++_};
+ghost use Prim.Native.Nat.{_+_, _*_, _≤_, _<_};
+ghost use lib.ListN.{length, getD, replicate};
+ghost use Rattle.meaning.specs.Rows.{least, raise, words};
+ghost use Rattle.meaning.specs.Table.{place};
+use meaning::Record;
+
+// The smaller and the greater of two numbers.
+fn min_of(x: u32, y: u32) -> u32
+    ensures { λ r. ⌜ r ≡ Prim.Native.Nat.min x y ⌝ }
+{
+    if x <= y { x } else { y }
+}
+
+fn max_of(x: u32, y: u32) -> u32
+    ensures { λ r. ⌜ r ≡ Prim.Native.Nat.max x y ⌝ }
+{
+    if x <= y { y } else { x }
+}
+
+// The smallest entry of a row.
+pub fn least_of(row: &[u32]) -> u32
+    requires { ⌜ 0 < length (now row) ⌝ }
+    ensures { λ r. ⌜ r ≡ least (now (row .entry)) ⌝ }
+{
+    let mut low = row[0];
+    let mut i: usize = 1;
+    while i < row.len() {
+        low = min_of(low, row[i]);
+        i += 1;
+    }
+    low
+}
+
+// Raises each entry of a row to the other row's, where that is greater.
+pub fn raise_row(row: &mut [u32], other: &[u32])
+    requires { ⌜ length (now other) ≡ length (now row) ⌝ }
+    ensures { λ _. ⌜ now (row .exit) ≡ raise (now (row .entry)) (now (other .entry)) ⌝ }
+{
+    let mut i: usize = 0;
+    while i < row.len() {
+        row[i] = max_of(row[i], other[i]);
+        i += 1;
+    }
+}
+
+// Puts one word.
+pub fn put_word(t: &mut [u32], at: usize, v: u32)
+    requires { ⌜ at < length (now t) ⌝ }
+    ensures { λ _. ⌜ now (t .exit) ≡ place at (v ∷ []) (now (t .entry)) ⌝ }
+{
+    t[at] = v;
+}
+
+// Fills a row of four words with a record.
+fn fill_record(row: &mut [u32], r: Record)
+    requires { ⌜ length (now row) ≡ 4 ⌝ }
+    ensures { λ _. ⌜ now (row .exit) ≡ words (r ∷ []) ⌝ }
+{
+    row[0] = r.origin;
+    row[1] = r.timestamp;
+    row[2] = r.block;
+    row[3] = r.verdict;
+}
+
+// Puts a record's four words.
+pub fn put_record(t: &mut [u32], at: usize, r: Record)
+    requires { ⌜ at + 4 ≤ length (now t) ⌝ }
+    ensures { λ _. ⌜ now (t .exit) ≡ place at (words (r ∷ [])) (now (t .entry)) ⌝ }
+{
+    let end = at + 4;
+    fill_record(&mut t[at..end], r);
+}
+
+// Fills a row with zeros.
+pub fn clear(row: &mut [u32])
+    ensures { λ _. ⌜ now (row .exit) ≡ replicate (length (now (row .entry))) 0 ⌝ }
+{
+    let mut i: usize = 0;
+    while i < row.len() {
+        row[i] = 0;
+        i += 1;
+    }
+}
