@@ -1,16 +1,18 @@
 -- Laws of records and their words, of `keep`, and of tests over a whole list.
 use mathlib.Core.Path.{_≡_, refl, sym, ap, _∙_}
-use mathlib.Core.Bool.{Bool, true, false, _&&_, false≢true, and-true}
+use mathlib.Core.Bool.{Bool, true, false, not, _&&_, false≢true, and-true}
 use mathlib.Core.List.{List, [], _∷_, _++_, append-assoc, append-nil}
 use Prim.Native.Nat.{ℕ, zero, suc, _+_, _-_, _*_, _≤_, _<_, min, max}
 use native.Mathlib.Nat.{add-zero}
 use native.Mathlib.Numerals.{add-one}
 use native.Mathlib.Omega.{arith}
-use native.Mathlib.Decide.{decLt}
+use native.Mathlib.Decide.{decLe, decLt}
+use borrow.Author.Tests.{le-ltb, lt-ltb, le-leb, lt-leb}
 use lib.ListN.{length, getD, take, drop, length-append, List·getD-append}
 use lib.Seq.{ext-getD, getD-append-add, getD-append-seam, getD-take, getD-at, take-suc}
+use lib.Dec.{leb, ltb}
 use Rattle.meaning.specs.declared.Record.{Record}
-use Rattle.meaning.specs.Rows.{every, keep, keepIf, least, raise, recordAt, records, words}
+use Rattle.meaning.specs.Rows.{every, keep, keepIf, least, raise, covers, newer, above, recordAt, records, words}
 
 abbrev pub noRecord : Record
 noRecord = record { origin = 0; timestamp = 0; block = 0; verdict = 0 }
@@ -204,3 +206,36 @@ length-raise [] ys n p q = p
 length-raise (x ∷ xs) [] n p q = absurd (omega arith)
 length-raise (x ∷ xs) (y ∷ ys) zero p q = absurd (omega arith)
 length-raise (x ∷ xs) (y ∷ ys) (suc n) p q = ap suc (length-raise xs ys n (omega arith) (omega arith))
+
+-- what passes at each record passes at each row
+pub all-row : (f : Record → Bool) (k : ℕ) (w : List ℕ) → all f (records k w) ≡ true → (i : ℕ) → i < k → f (recordAt w i) ≡ true
+all-row f k w h i b = every-at k (λ j. f (recordAt w j)) (every-records k f w ∙ h) i b
+
+-- the kept records, one row more
+pub keep-row : (f : Record → Bool) (k : ℕ) (w : List ℕ) → keep f (records (k + 1) w) ≡ keep f (records k w) ++ keep f (recordAt w k ∷ [])
+unfolding records
+keep-row f k w = rw (add-one k) (keep-append f (records k w) (recordAt w k ∷ []))
+
+pub newer-row : (s : List ℕ) (k : ℕ) (w : List ℕ) → newer s (records (k + 1) w) ≡ newer s (records k w) ++ newer s (recordAt w k ∷ [])
+unfolding newer
+newer-row s k w = keep-row (λ (r : Record). not (covers s r)) k w
+
+pub above-row : (limit k : ℕ) (w : List ℕ) → above limit (records (k + 1) w) ≡ above limit (records k w) ++ above limit (recordAt w k ∷ [])
+unfolding above
+above-row limit k w = keep-row (λ (r : Record). not (leb (r .timestamp) limit)) k w
+
+pub length-newer : (s : List ℕ) (rs : List Record) → length (newer s rs) ≤ length rs
+unfolding newer
+length-newer s rs = length-keep (λ (r : Record). not (covers s r)) rs
+
+pub length-above : (limit : ℕ) (rs : List Record) → length (above limit rs) ≤ length rs
+unfolding above
+length-above limit rs = length-keep (λ (r : Record). not (leb (r .timestamp) limit)) rs
+
+-- one order is the other's contrary
+pub ltb-not-leb : (a b : ℕ) → ltb a b ≡ not (leb b a)
+ltb-not-leb a b = go (decLe b a)
+  where
+    go : Dec (b ≤ a) → ltb a b ≡ not (leb b a)
+    go (yes h) = le-ltb a b h ∙ sym (ap not (le-leb b a h))
+    go (no h) = lt-ltb a b (omega arith) ∙ sym (ap not (lt-leb b a (omega arith)))

@@ -5,7 +5,7 @@ use mathlib.Core.List.{List, [], _∷_, _++_, append-assoc}
 use Prim.Native.Nat.{ℕ, zero, suc, _+_, _-_, _*_, _≤_, _<_}
 use native.Mathlib.Decide.{ℕ-discrete}
 use native.Mathlib.Omega.{arith}
-use borrow.Author.Tests.{leb-true, eqb-true, le-leb, eq-eqb}
+use borrow.Author.Tests.{leb-true, ltb-true, eqb-true, le-leb, eq-eqb}
 use lib.ListN.{length, getD, replicate, length-append, length-replicate, getD-replicate, List·getD-append}
 use lib.Dec.{leb, ltb, eqb}
 use Rattle.meaning.specs.declared.Record.{Record}
@@ -51,6 +51,11 @@ pub record Sound (t : List ℕ) : Type 0 where
   pub high : count t ≤ nodesMost
   pub room : (p : ℕ) → p < count t → held t p ≤ logMost
   pub right : (p : ℕ) → p < count t → all (recordSound (count t)) (node t p .log) ≡ true
+
+-- a right record's origin is a node
+pub origin-below : (n : ℕ) (r : Record) → recordSound n r ≡ true → r .origin < n
+unfolding recordSound
+origin-below n r h = ltb-true (r .origin) n (and-left (ltb (r .origin) n) (leb (r .verdict) 255) h)
 
 -- A node that fits a table of n nodes
 pub record Shaped (n : ℕ) (x : Node) : Type 0 where

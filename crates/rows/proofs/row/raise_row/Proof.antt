@@ -1,4 +1,4 @@
--- `rows::raise_row` meets its contract: the invariant says that the entries passed are raised and the others as they were.
+-- `rows::row::raise_row` meets its contract: the invariant says that the entries passed are raised and the others as they were.
 use mathlib.Core.Path.{_≡_, refl, ap, ap₂, sym, _∙_}
 use mathlib.Core.List.{List, [], _∷_, _++_}
 use Prim.Native.Nat.{ℕ, zero, suc, _+_, _-_, _≤_, _<_, max}
@@ -12,11 +12,11 @@ use Rattle.meaning.specs.Table.{place}
 use Rattle.meaning.proofs.PlaceLaws.{set-place, place-append, place-none, place-all, getD-beyond}
 use Rattle.meaning.proofs.RowLaws.{raise-take, length-raise}
 use borrow.Author.Needs.{needs}
-use Rattle.rows.proofs.raise_row.Statement.{statement}
-use Rattle.rows.proofs.raise_row.Tie as tie
-use Rattle.rows.proofs.raise_row.Reads as reads
-use Rattle.rows.proofs.raise_row.Lts as lts
-use Rattle.rows.proofs.max_of.Reads as max-of-reads
+use Rattle.rows.proofs.row.raise_row.Statement.{statement}
+use Rattle.rows.proofs.row.raise_row.Tie as tie
+use Rattle.rows.proofs.row.raise_row.Reads as reads
+use Rattle.rows.proofs.row.raise_row.Lts as lts
+use Rattle.rows.proofs.row.max_of.Reads as max-of-reads
 
 -- the row with its first i entries raised
 abbrev raised : List ℕ → List ℕ → ℕ → List ℕ

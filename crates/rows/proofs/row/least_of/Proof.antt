@@ -1,4 +1,4 @@
--- `rows::least_of` meets its contract: the invariant says that `low` is the smallest of the entries passed.
+-- `rows::row::least_of` meets its contract: the invariant says that `low` is the smallest of the entries passed.
 use mathlib.Core.Path.{_≡_, refl, ap, sym, _∙_}
 use mathlib.Core.List.{List, [], _∷_, _++_}
 use Prim.Native.Nat.{ℕ, zero, suc, _+_, _-_, _≤_, _<_, min}
@@ -9,11 +9,11 @@ use lib.Seq.{take-length}
 use Rattle.meaning.specs.Rows.{least}
 use Rattle.meaning.proofs.RowLaws.{least-take}
 use borrow.Author.Needs.{needs}
-use Rattle.rows.proofs.least_of.Statement.{statement}
-use Rattle.rows.proofs.least_of.Tie as tie
-use Rattle.rows.proofs.least_of.Reads as reads
-use Rattle.rows.proofs.least_of.Lts as lts
-use Rattle.rows.proofs.min_of.Reads as min-of-reads
+use Rattle.rows.proofs.row.least_of.Statement.{statement}
+use Rattle.rows.proofs.row.least_of.Tie as tie
+use Rattle.rows.proofs.row.least_of.Reads as reads
+use Rattle.rows.proofs.row.least_of.Lts as lts
+use Rattle.rows.proofs.row.min_of.Reads as min-of-reads
 
 one : (row : List ℕ) → 0 < length row → getD row 0 0 ≡ least (take 1 row)
 unfolding least

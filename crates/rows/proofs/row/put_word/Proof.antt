@@ -1,10 +1,10 @@
--- `rows::put_word` meets its contract: a store is a list of one word put there.
+-- `rows::row::put_word` meets its contract: a store is a list of one word put there.
 use Rattle.meaning.proofs.PlaceLaws.{set-place}
 use borrow.Author.Needs.{needs}
-use Rattle.rows.proofs.put_word.Statement.{statement}
-use Rattle.rows.proofs.put_word.Tie as tie
-use Rattle.rows.proofs.put_word.Reads as reads
-use Rattle.rows.proofs.put_word.Lts as lts
+use Rattle.rows.proofs.row.put_word.Statement.{statement}
+use Rattle.rows.proofs.row.put_word.Tie as tie
+use Rattle.rows.proofs.row.put_word.Reads as reads
+use Rattle.rows.proofs.row.put_word.Lts as lts
 
 mul-t : tie.Need-mul-t
 mul-t c = search needs

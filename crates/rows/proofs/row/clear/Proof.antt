@@ -1,4 +1,4 @@
--- `rows::clear` meets its contract: the invariant says that the entries passed are 0 and the others as they were.
+-- `rows::row::clear` meets its contract: the invariant says that the entries passed are 0 and the others as they were.
 use mathlib.Core.Path.{_≡_, refl, ap, sym, _∙_}
 use mathlib.Core.List.{List, [], _∷_, _++_, append-nil}
 use Prim.Native.Nat.{ℕ, _+_, _-_, _≤_}
@@ -7,10 +7,10 @@ use borrow.Author.Fill.{fill-none, fill-more}
 use lib.ListN.{length, drop, set, replicate, length-set}
 use lib.Seq.{drop-length}
 use borrow.Author.Needs.{needs}
-use Rattle.rows.proofs.clear.Statement.{statement}
-use Rattle.rows.proofs.clear.Tie as tie
-use Rattle.rows.proofs.clear.Reads as reads
-use Rattle.rows.proofs.clear.Lts as lts
+use Rattle.rows.proofs.row.clear.Statement.{statement}
+use Rattle.rows.proofs.row.clear.Tie as tie
+use Rattle.rows.proofs.row.clear.Reads as reads
+use Rattle.rows.proofs.row.clear.Lts as lts
 
 abbrev Inv-loop : tie.InvT-loop
 Inv-loop row₀ i₀ row i = (i ≤ length row₀) × (length row ≡ length row₀) × (row ≡ replicate i 0 ++ drop i row₀)

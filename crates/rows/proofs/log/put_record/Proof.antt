@@ -1,4 +1,4 @@
--- `rows::put_record` meets its contract: the part that was lent comes back as the record's words.
+-- `rows::log::put_record` meets its contract: the part that was lent comes back as the record's words.
 use mathlib.Core.Path.{_≡_, refl, ap, sym, _∙_}
 use mathlib.Core.List.{[], _∷_}
 use Prim.Native.Nat.{ℕ, _+_, _-_, _≤_}
@@ -8,11 +8,11 @@ use Rattle.meaning.specs.Rows.{words}
 use Rattle.meaning.proofs.PlaceLaws.{mid-place}
 use Rattle.meaning.proofs.RowLaws.{length-words}
 use borrow.Author.Needs.{needs}
-use Rattle.rows.proofs.put_record.Statement.{statement}
-use Rattle.rows.proofs.put_record.Tie as tie
-use Rattle.rows.proofs.put_record.Reads as reads
-use Rattle.rows.proofs.put_record.Lts as lts
-use Rattle.rows.proofs.fill_record.Reads as fill-record-reads
+use Rattle.rows.proofs.log.put_record.Statement.{statement}
+use Rattle.rows.proofs.log.put_record.Tie as tie
+use Rattle.rows.proofs.log.put_record.Reads as reads
+use Rattle.rows.proofs.log.put_record.Lts as lts
+use Rattle.rows.proofs.log.fill_record.Reads as fill-record-reads
 
 add-end : tie.Need-add-end
 add-end c = search needs

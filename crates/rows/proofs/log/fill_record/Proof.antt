@@ -1,4 +1,4 @@
--- `rows::fill_record` meets its contract: four stores over a list of four words leave the record's words.
+-- `rows::log::fill_record` meets its contract: four stores over a list of four words leave the record's words.
 use mathlib.Core.Path.{_≡_, refl}
 use mathlib.Core.List.{List, [], _∷_}
 use Prim.Native.Nat.{ℕ, zero, suc}
@@ -7,10 +7,10 @@ use lib.ListN.{length, set}
 use Rattle.meaning.specs.declared.Record.{Record}
 use Rattle.meaning.specs.Rows.{words}
 use borrow.Author.Needs.{needs}
-use Rattle.rows.proofs.fill_record.Statement.{statement}
-use Rattle.rows.proofs.fill_record.Tie as tie
-use Rattle.rows.proofs.fill_record.Reads as reads
-use Rattle.rows.proofs.fill_record.Lts as lts
+use Rattle.rows.proofs.log.fill_record.Statement.{statement}
+use Rattle.rows.proofs.log.fill_record.Tie as tie
+use Rattle.rows.proofs.log.fill_record.Reads as reads
+use Rattle.rows.proofs.log.fill_record.Lts as lts
 
 four : (t : List ℕ) (a b c d : ℕ) → length t ≡ 4 → set (set (set (set t 0 a) 1 b) 2 c) 3 d ≡ a ∷ b ∷ c ∷ d ∷ []
 four [] a b c d h = absurd (omega arith)

@@ -1,0 +1,76 @@
+// Leaves over the records of a log: four words a row.
+ghost use mathlib.Core.Path.{_≡_};
+ghost use mathlib.Core.Bool.{true, not};
+ghost use mathlib.Core.List.{[], _∷_, _++_};
+ghost use Prim.Native.Nat.{_+_, _*_, _≤_, _<_};
+ghost use lib.ListN.{length, replicate};
+ghost use Rattle.meaning.specs.Rows.{covers, newer, above, recordAt, records, words};
+ghost use Rattle.meaning.specs.Table.{part, place, recordSound};
+ghost use Rattle.meaning.proofs.RowLaws.{all};
+use meaning::Record;
+
+// Fills a row of four words with a record.
+fn fill_record(row: &mut [u32], r: Record)
+    requires { ⌜ length (now row) ≡ 4 ⌝ }
+    ensures { λ _. ⌜ now (row .exit) ≡ words (r ∷ []) ⌝ }
+{
+    row[0] = r.origin;
+    row[1] = r.timestamp;
+    row[2] = r.block;
+    row[3] = r.verdict;
+}
+
+// Puts a record's four words.
+pub fn put_record(t: &mut [u32], at: usize, r: Record)
+    requires { ⌜ at + 4 ≤ length (now t) ⌝ }
+    ensures { λ _. ⌜ now (t .exit) ≡ place at (words (r ∷ [])) (now (t .entry)) ⌝ }
+{
+    let end = at + 4;
+    fill_record(&mut t[at..end], r);
+}
+
+// A record of a log, by its row.
+pub fn record_at(log: &[u32], row: usize) -> Record
+    requires { ⌜ 4 * row + 4 ≤ length (now log) ⌝ }
+    ensures { λ r. ⌜ r ≡ recordAt (now (log .entry)) row ⌝ }
+{
+    let at = 4 * row;
+    Record {
+        origin: log[at],
+        timestamp: log[at + 1],
+        block: log[at + 2],
+        verdict: log[at + 3],
+    }
+}
+
+// Is a record newer than a summary?
+fn is_newer(summary: &[u32], r: Record) -> bool
+    requires { ⌜ r .origin < length (now summary) ⌝ }
+    ensures { λ n. ⌜ n ≡ not (covers (now (summary .entry)) r) ⌝ }
+{
+    let origin = r.origin as usize;
+    let entry = summary[origin];
+    entry < r.timestamp
+}
+
+// Adds 1 to a count if the record is newer than the summary.
+fn newer_one(summary: &[u32], r: Record) -> usize
+    requires { ⌜ r .origin < length (now summary) ⌝ }
+    ensures { λ n. ⌜ n ≡ length (newer (now (summary .entry)) (r ∷ [])) ⌝ }
+{
+    if is_newer(summary, r) { 1 } else { 0 }
+}
+
+// How many of the first `held` records of a log are newer than a summary.
+pub fn newer_count(summary: &[u32], log: &[u32], held: usize) -> usize
+    requires { ⌜ (4 * held ≤ length (now log)) × (all (recordSound (length (now summary))) (records held (now log)) ≡ true) ⌝ }
+    ensures { λ n. ⌜ n ≡ length (newer (now (summary .entry)) (records held (now (log .entry)))) ⌝ }
+{
+    let mut k: usize = 0;
+    let mut i: usize = 0;
+    while i < held {
+        k += newer_one(summary, record_at(log, i));
+        i += 1;
+    }
+    k
+}

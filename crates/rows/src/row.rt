@@ -1,0 +1,65 @@
+// Leaves over one row of numbers, or one word of a list.
+ghost use mathlib.Core.Path.{_≡_};
+ghost use mathlib.Core.List.{[], _∷_};
+ghost use Prim.Native.Nat.{_<_};
+ghost use lib.ListN.{length, replicate};
+ghost use Rattle.meaning.specs.Rows.{least, raise};
+ghost use Rattle.meaning.specs.Table.{place};
+
+// The smaller and the greater of two numbers.
+fn min_of(x: u32, y: u32) -> u32
+    ensures { λ r. ⌜ r ≡ Prim.Native.Nat.min x y ⌝ }
+{
+    if x <= y { x } else { y }
+}
+
+fn max_of(x: u32, y: u32) -> u32
+    ensures { λ r. ⌜ r ≡ Prim.Native.Nat.max x y ⌝ }
+{
+    if x <= y { y } else { x }
+}
+
+// The smallest entry of a row.
+pub fn least_of(row: &[u32]) -> u32
+    requires { ⌜ 0 < length (now row) ⌝ }
+    ensures { λ r. ⌜ r ≡ least (now (row .entry)) ⌝ }
+{
+    let mut low = row[0];
+    let mut i: usize = 1;
+    while i < row.len() {
+        low = min_of(low, row[i]);
+        i += 1;
+    }
+    low
+}
+
+// Raises each entry of a row to the other row's, where that is greater.
+pub fn raise_row(row: &mut [u32], other: &[u32])
+    requires { ⌜ length (now other) ≡ length (now row) ⌝ }
+    ensures { λ _. ⌜ now (row .exit) ≡ raise (now (row .entry)) (now (other .entry)) ⌝ }
+{
+    let mut i: usize = 0;
+    while i < row.len() {
+        row[i] = max_of(row[i], other[i]);
+        i += 1;
+    }
+}
+
+// Puts one word.
+pub fn put_word(t: &mut [u32], at: usize, v: u32)
+    requires { ⌜ at < length (now t) ⌝ }
+    ensures { λ _. ⌜ now (t .exit) ≡ place at (v ∷ []) (now (t .entry)) ⌝ }
+{
+    t[at] = v;
+}
+
+// Fills a row with zeros.
+pub fn clear(row: &mut [u32])
+    ensures { λ _. ⌜ now (row .exit) ≡ replicate (length (now (row .entry))) 0 ⌝ }
+{
+    let mut i: usize = 0;
+    while i < row.len() {
+        row[i] = 0;
+        i += 1;
+    }
+}
