@@ -192,8 +192,8 @@ least-take (x ∷ xs) (suc i) h g =
     ap (λ (l : List ℕ). least (x ∷ l)) (take-suc xs i 0 (omega arith)) ∙ least-snoc x (take i xs) (getD xs i 0)
 
 pub raise-take :
-  (xs ys : List ℕ) (i : ℕ) → i < length xs → i < length ys →
-  raise (take (suc i) xs) (take (suc i) ys) ≡ raise (take i xs) (take i ys) ++ (max (getD xs i 0) (getD ys i 0) ∷ [])
+    (xs ys : List ℕ) (i : ℕ) → i < length xs → i < length ys →
+    raise (take (suc i) xs) (take (suc i) ys) ≡ raise (take i xs) (take i ys) ++ (max (getD xs i 0) (getD ys i 0) ∷ [])
 unfolding raise
 raise-take [] ys i h g = absurd (omega arith)
 raise-take (x ∷ xs) [] i h g = absurd (omega arith)

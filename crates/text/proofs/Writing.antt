@@ -2,54 +2,36 @@
 use mathlib.Core.Path.{_≡_, refl, sym, ap, _∙_}
 use mathlib.Core.Bool.{true, false}
 use mathlib.Core.List.{List, [], _∷_, _++_, append-assoc, append-nil}
-use Prim.Native.Nat.{ℕ, zero, suc, _+_, _-_, _*_, _/_, _%_, _^_, _≤_, _<_}
+use Prim.Native.Nat.{ℕ, zero, suc, _+_, _-_, _*_, _/_, _%_, _≤_, _<_}
 use Prim.Native.String.{String}
-use native.Mathlib.Nat.{add-zero, add-assoc}
 use native.Mathlib.Numerals.{add-one}
 use native.Mathlib.Omega.{arith}
-use lib.Dec.{ltb}
 use borrow.Author.Tests.{lt-ltb, le-ltb, le-leb, lt-leb}
-use lib.ListN.{length, getD, take, drop, set, length-append, length-take, length-drop, take-append-drop}
-use lib.Seq.{set-split, take-suc, length-take-le, take-append-add, drop-append-add, drop-drop, take-at, drop-at}
+use lib.ListN.{length, getD, take, drop, set, length-append, length-take, length-drop}
+use lib.Seq.{take-suc}
 use Rattle.meaning.specs.declared.Outcome.{Outcome}
 use Rattle.meaning.specs.declared.Outcome.the-variants.{Bad, Done}
-use Rattle.meaning.specs.Rows.{ascii, recordAt, records}
+use Rattle.meaning.specs.Rows.{ascii}
 use Rattle.meaning.specs.Table.{logMost, summaryAt, acksAt, heldAt, logAt, part, place, count, held, node}
 use Rattle.meaning.specs.Journals.{decimalIn, decimal, spaced, said, nodeLine, nodeLines, printed}
+use Rattle.meaning.proofs.PlaceLaws.{place-append, place-none, set-place}
+use Rattle.meaning.proofs.RowLaws.{length-records}
 use Rattle.text.specs.Text.{Wrote, textMost, hasNodes, textFor}
 
 -- nothing written; one byte written; one text after another is both as one
 pub wrote-none : (t : List ℕ) (at : ℕ) (most : ℕ) → Wrote t at [] most at t
-unfolding place
-wrote-none t at most = record { to = omega arith; within = omega arith; is = sym (rw add-zero (take-append-drop at t)) }
+wrote-none t at most = record { to = omega arith; within = omega arith; is = sym (place-none at t) }
 
 pub wrote-one : (t : List ℕ) (at b : ℕ) → at + 1 ≤ length t → Wrote t at (b ∷ []) 1 (at + 1) (set t at b)
-unfolding place
-wrote-one t at b fits = record { to = refl; within = omega arith; is = rw add-one (set-split t at b (omega arith)) }
+wrote-one t at b fits = record { to = refl; within = omega arith; is = set-place t at b (omega arith) }
 
-place-then : (at : ℕ) (xs ys t : List ℕ) → at ≤ length t → place (at + length xs) ys (place at xs t) ≡ place at (xs ++ ys) t
-unfolding place
-place-then at xs ys t h =
-    let l : length (take at t) ≡ at = length-take-le at t h in
-    let front : take (at + length xs) (take at t ++ (xs ++ drop (at + length xs) t)) ≡ take at t ++ xs =
-    rw (← append-assoc (take at t) xs (drop (at + length xs) t)) (take-at (take at t ++ xs) (drop (at + length xs) t) (at + length xs) (length-append (take at t) xs ∙ rw l)) in
-    let near : at + length xs + length ys ≡ length (take at t) + (length xs + length ys) = omega arith in
-    let far : at + length xs + length ys ≡ at + length (xs ++ ys) = omega (arith, length-append xs ys) in
-    let back : drop (at + length xs + length ys) (take at t ++ (xs ++ drop (at + length xs) t)) ≡ drop (at + length (xs ++ ys)) t =
-    ap (λ (n : ℕ). drop n (take at t ++ (xs ++ drop (at + length xs) t))) near ∙
-    drop-append-add (take at t) (xs ++ drop (at + length xs) t) (length xs + length ys) ∙
-    drop-append-add xs (drop (at + length xs) t) (length ys) ∙
-    drop-drop (length ys) (at + length xs) t ∙
-    ap (λ (n : ℕ). drop n t) far in
-    rw (front, back) (simp append-assoc)
-
-pub wrote-then : {t t′ t″ : List ℕ} {at to to′ : ℕ} {xs ys : List ℕ} {most most′ : ℕ} → at ≤ length t
+pub wrote-then : {t t′ t″ : List ℕ} {at to to′ : ℕ} {xs ys : List ℕ} {most most′ : ℕ} → at + (most + most′) ≤ length t
     → Wrote t at xs most to t′ → Wrote t′ to ys most′ to′ t″ → Wrote t at (xs ++ ys) (most + most′) to′ t″
-wrote-then {t = t} {at = at} {xs = xs} {ys = ys} h w w′ =
+wrote-then {t = t} {at = at} {to = to} {xs = xs} {ys = ys} h w w′ =
     record {
       to = omega (arith, w .to, w′ .to, length-append xs ys);
       within = omega (arith, w .within, w′ .within);
-      is = w′ .is ∙ rw (w .is, w .to) (place-then at xs ys t h);
+      is = w′ .is ∙ rw (w .is) (place-append at to xs ys t (w .to) (omega (arith, w .to, w .within, w′ .to, w′ .within)));
     }
 
 -- what was written, by another name and with a wider bound
@@ -114,11 +96,6 @@ held-is t p = refl
 pub said-is : (word : String) (vs : List ℕ) → ascii word ++ spaced vs ≡ said word vs
 unfolding said
 said-is word vs = refl
-
-length-records : (k : ℕ) (w : List ℕ) → length (records k w) ≡ k
-unfolding records
-length-records zero w = refl
-length-records (suc k) w = length-append (records k w) (recordAt w k ∷ []) ∙ rw (length-records k w) (add-one k)
 
 -- a node's line is its parts, one after the other
 pub line-is : (t : List ℕ) (p : ℕ)
