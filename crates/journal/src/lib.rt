@@ -1,0 +1,91 @@
+// The journal reader: the line at a place, what it says, and the reader that holds a journal and its position.
+// Document 01, "Frames and journals".
+ghost use mathlib.Core.Path.{_≡_};
+ghost use Rattle.meaning.specs.Journals.{lineAt, nextAt, inTurn, handedBack};
+ghost use Rattle.journal.specs.Found.{foundAt};
+use meaning::Line;
+use meaning::Next;
+
+// What stands at a place: a line, with the place of the LF that ends it; bytes that no LF ends; or nothing, at the end or beyond.
+pub enum Found {
+    Line { end: usize },
+    Unended,
+    Over,
+}
+
+// "The next line runs from the position to the next LF"
+pub fn find(s: &[u8], at: usize) -> Found
+    ensures { λ r. ⌜ r ≡ foundAt (now (s .entry)) at ⌝ }
+{
+    if s.len() <= at {
+        return Found::Over;
+    }
+    let mut i = at;
+    while i < s.len() {
+        if s[i] == b'\n' {
+            return Found::Line { end: i };
+        }
+        i += 1;
+    }
+    Found::Unended
+}
+
+// "hands back each line as the part of the caller's journal between two LF bytes": empty where none is found
+pub fn line(s: &[u8], at: usize) -> &[u8]
+    ensures { λ r. ⌜ now r ≡ lineAt (now (s .entry)) at ⌝ }
+{
+    match find(s, at) {
+        Found::Line { end } => &s[at..end],
+        Found::Unended => &s[0..0],
+        Found::Over => &s[0..0],
+    }
+}
+
+// 15: "the first line is no start, a later line is one"
+fn in_turn(first: bool, next: usize, said: Line) -> Next
+    ensures { λ r. ⌜ r ≡ inTurn first next said ⌝ }
+{
+    match said {
+        Line::Begin { n } => {
+            if first {
+                Next::Begin { n, next }
+            } else {
+                Next::Refused { number: 15 }
+            }
+        }
+        Line::Act { step } => {
+            if first {
+                Next::Refused { number: 15 }
+            } else {
+                Next::Act { step, next }
+            }
+        }
+        Line::Refused { number } => Next::Refused { number },
+    }
+}
+
+// What the reader finds at a place, told the line number: "the line read at place 0 is the first, and no other is".
+pub fn next_at(s: &[u8], at: usize, line: usize) -> Next
+    ensures { λ r. ⌜ r ≡ nextAt (now (s .entry)) at line ⌝ }
+{
+    match find(s, at) {
+        Found::Over => Next::End,
+        Found::Unended => Next::Refused { number: 14 },
+        Found::Line { end } => {
+            let said = frames::read_line(&s[at..end], line);
+            in_turn(at == 0, end + 1, said)
+        }
+    }
+}
+
+// "hands back each line ..; with a refusal the part is empty"
+pub fn part_at(s: &[u8], at: usize, line: usize) -> &[u8]
+    ensures { λ r. ⌜ now r ≡ handedBack (nextAt (now (s .entry)) at line) (lineAt (now (s .entry)) at) ⌝ }
+{
+    match next_at(s, at, line) {
+        Next::Begin { n: _, next } => &s[at..next - 1],
+        Next::Act { step: _, next } => &s[at..next - 1],
+        Next::Refused { number: _ } => &s[0..0],
+        Next::End => &s[0..0],
+    }
+}

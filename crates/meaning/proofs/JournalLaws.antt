@@ -1,0 +1,77 @@
+-- Laws of a journal's lines: where the next LF stands, the line before it, what the reader finds there, and the steps from there on.
+use mathlib.Core.Path.{_≡_, refl, sym, ap, _∙_}
+use mathlib.Core.Bool.{Bool, true, false, not, _&&_, _||_, cond}
+use mathlib.Core.List.{List, [], _∷_, _++_}
+use Prim.Native.Nat.{ℕ, zero, suc, _+_, _-_, _≤_, _<_}
+use native.Mathlib.Numerals.{add-one}
+use native.Mathlib.Omega.{arith}
+use lib.Dec.{leb, ltb, eqb}
+use lib.ListN.{length, getD, take, drop, length-drop, drop-of-length-le}
+use lib.Seq.{drop-cons}
+use borrow.Author.Tests.{lt-ltb, le-ltb, le-leb, lt-leb, eq-eqb, ne-eqb}
+use Rattle.meaning.specs.Journals.{unlessLF, untilLF, hasLF, unended, lineAt, placeAfter}
+
+-- an LF at a place; another byte there; nothing at the end or beyond
+module _ (s : List ℕ) (i : ℕ) (h : i < length s) where
+  from-here : drop i s ≡ getD s i 0 ∷ drop (i + 1) s
+  from-here = rw add-one (drop-cons s i 0 h)
+
+  pub has-here : getD s i 0 ≡ 10 → hasLF (drop i s) ≡ true
+  unfolding hasLF
+  has-here e = rw (from-here, e)
+
+  pub until-here : getD s i 0 ≡ 10 → untilLF (drop i s) ≡ []
+  unfolding untilLF
+  until-here e = rw (from-here, e)
+
+  pub has-past : (getD s i 0 ≡ 10 → ⊥) → hasLF (drop i s) ≡ hasLF (drop (i + 1) s)
+  unfolding hasLF
+  has-past n = rw (from-here, ne-eqb (getD s i 0) 10 n)
+
+  pub until-past : (getD s i 0 ≡ 10 → ⊥) → length (untilLF (drop i s)) ≡ length (untilLF (drop (i + 1) s)) + 1
+  unfolding untilLF
+  until-past n = rw (from-here, ne-eqb (getD s i 0) 10 n) (sym (add-one (length (untilLF (drop (i + 1) s)))))
+
+pub has-none : (s : List ℕ) (i : ℕ) → length s ≤ i → hasLF (drop i s) ≡ false
+unfolding hasLF
+has-none s i h = rw (drop-of-length-le s h)
+
+-- the line is the front of what is left, and shorter than it where an LF follows
+pub until-front : (l : List ℕ) → take (length (untilLF l)) l ≡ untilLF l
+unfolding untilLF
+until-front [] = refl
+until-front (c ∷ cs) = go (eqb c 10) (until-front cs)
+  where
+    go : (b : Bool) → take (length (untilLF cs)) cs ≡ untilLF cs → take (length (unlessLF b c (untilLF cs))) (c ∷ cs) ≡ unlessLF b c (untilLF cs)
+    go true p = refl
+    go false p = ap (λ (l : List ℕ). c ∷ l) p
+
+pub until-short : (l : List ℕ) → hasLF l ≡ true → length (untilLF l) < length l
+unfolding untilLF hasLF
+until-short [] e = let z : _≡_ {A = ℕ} 0 1 = cc in omega arith
+until-short (c ∷ cs) e = go (eqb c 10) e (until-short cs)
+  where
+    go : (b : Bool) → (b || hasLF cs) ≡ true → (hasLF cs ≡ true → length (untilLF cs) < length cs) → length (unlessLF b c (untilLF cs)) < length (c ∷ cs)
+    go true p q = omega arith
+    go false p q = let r = q p in omega arith
+
+-- the line at a place, where an LF follows and where none does
+pub line-ended : (s : List ℕ) (at : ℕ) → hasLF (drop at s) ≡ true → lineAt s at ≡ untilLF (drop at s)
+unfolding lineAt
+line-ended s at e = rw e
+
+pub line-none : (s : List ℕ) (at : ℕ) → hasLF (drop at s) ≡ false → lineAt s at ≡ []
+unfolding lineAt
+line-none s at e = rw e
+
+pub ended : (s : List ℕ) (at : ℕ) → hasLF (drop at s) ≡ true → unended s at ≡ false
+unfolding unended
+ended s at e = go (ltb at (length s))
+  where
+    go : (b : Bool) → (b && not (hasLF (drop at s))) ≡ false
+    go true = rw e
+    go false = refl
+
+pub not-ended : (s : List ℕ) (at : ℕ) → at < length s → hasLF (drop at s) ≡ false → unended s at ≡ true
+unfolding unended
+not-ended s at h e = rw (lt-ltb at (length s) h, e)
