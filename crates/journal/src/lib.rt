@@ -1,7 +1,7 @@
 // The journal reader: the line at a place, what it says, and the reader that holds a journal and its position.
 // Document 01, "Frames and journals".
 ghost use mathlib.Core.Path.{_≡_};
-ghost use Rattle.meaning.specs.Journals.{lineAt, nextAt, inTurn, handedBack};
+ghost use Rattle.meaning.specs.Journals.{lineAt, nextAt, inTurn, handedBack, position};
 ghost use Rattle.journal.specs.Found.{foundAt};
 use meaning::Line;
 use meaning::Next;
@@ -88,4 +88,61 @@ pub fn part_at(s: &[u8], at: usize, line: usize) -> &[u8]
         Next::Refused { number: _ } => &s[0..0],
         Next::End => &s[0..0],
     }
+}
+
+// The position afterwards: "A refused line .. leaves the position at that line's start."
+pub fn position_at(s: &[u8], at: usize, line: usize) -> usize
+    ensures { λ r. ⌜ r ≡ position at (nextAt (now (s .entry)) at line) ⌝ }
+{
+    match next_at(s, at, line) {
+        Next::Begin { n: _, next } => next,
+        Next::Act { step: _, next } => next,
+        Next::Refused { number: _ } => at,
+        Next::End => at,
+    }
+}
+
+// "The journal reader holds the lent journal and its position". Each function over it takes it apart and calls one above.
+pub struct Reader<'a> {
+    pub journal: &'a [u8],
+    pub at: usize,
+}
+
+// A reader at the journal's start.
+pub fn new<'a>(journal: &'a [u8]) -> Reader<'a>
+    ensures { λ r. ⌜ (r .journal ≡ journal .entry) × (r .at ≡ 0) ⌝ }
+{
+    Reader { journal, at: 0 }
+}
+
+// What the reader finds at its position, told the line number.
+pub fn next<'a>(r: Reader<'a>, line: usize) -> Next
+    ensures { λ x. ⌜ x ≡ nextAt (now (r .entry .journal)) (r .entry .at) line ⌝ }
+{
+    next_at(r.journal, r.at, line)
+}
+
+// That line's part of the caller's journal, empty with a refusal and at the end.
+pub fn part<'a>(r: Reader<'a>, line: usize) -> &'a [u8]
+    ensures { λ l. ⌜ now l ≡ handedBack (nextAt (now (r .entry .journal)) (r .entry .at) line) (lineAt (now (r .entry .journal)) (r .entry .at)) ⌝ }
+{
+    part_at(r.journal, r.at, line)
+}
+
+// The reader after that line, or where it was with a refusal and at the end.
+pub fn moved<'a>(r: Reader<'a>, line: usize) -> Reader<'a>
+    ensures { λ q. ⌜ (q .journal ≡ r .entry .journal) × (q .at ≡ position (r .entry .at) (nextAt (now (r .entry .journal)) (r .entry .at) line)) ⌝ }
+{
+    let at = position_at(r.journal, r.at, line);
+    Reader {
+        journal: r.journal,
+        at,
+    }
+}
+
+// What a journal begins with, by the reader: for a caller that has no reader.
+pub fn first(s: &[u8]) -> Next
+    ensures { λ x. ⌜ x ≡ nextAt (now (s .entry)) 0 1 ⌝ }
+{
+    next(new(s), 1)
 }
