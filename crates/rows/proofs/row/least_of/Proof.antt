@@ -48,10 +48,12 @@ loop-less : tie.Need-loop-less Inv-loop μ-loop
 loop-less c = search needs
 
 loop-again : tie.Need-loop-again Inv-loop μ-loop
-loop-again c =
-    (omega arith, omega arith,
-    c .min-of .ensures ∙ ap (λ (m : ℕ). min m (getD (c .before .before .before .before .before .before .args .row .now) (c .before .before .before .loop .i) 0)) (c .before .before .before .loop .inv .2) ∙
-    sym (ap (λ (m : ℕ). least (take m (c .before .before .before .before .before .before .args .row .now))) (add-one (c .before .before .before .loop .i)) ∙ least-take (c .before .before .before .before .before .before .args .row .now) (c .before .before .before .loop .i) (omega arith) (omega arith)))
+loop-again c = (
+  omega arith,
+  omega arith,
+  c .min-of .ensures ∙ ap (λ (m : ℕ). min m (getD (c .before .before .before .before .before .before .args .row .now) (c .before .before .before .loop .i) 0)) (c .before .before .before .loop .inv .2) ∙
+      sym (ap (λ (m : ℕ). least (take m (c .before .before .before .before .before .before .args .row .now))) (add-one (c .before .before .before .loop .i)) ∙ least-take (c .before .before .before .before .before .before .args .row .now) (c .before .before .before .loop .i) (omega arith) (omega arith)),
+)
 
 returns : tie.Need-returns Inv-loop μ-loop
 returns c =

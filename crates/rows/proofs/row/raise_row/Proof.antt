@@ -87,10 +87,11 @@ loop-less : tie.Need-loop-less Inv-loop μ-loop
 loop-less c = search needs
 
 loop-again : tie.Need-loop-again Inv-loop μ-loop
-loop-again c =
-    (omega arith,
-    length-set (c .before .before .before .before .loop .row) (c .before .before .before .before .loop .i) (c .max-of .result) ∙ c .before .before .before .before .loop .inv .1,
-    more (c .before .before .before .before .before .before .before .args .row .now) (c .before .before .before .before .before .before .before .args .other .now) (c .before .before .before .before .before .before .before .pre) (c .before .before .before .before .loop .i) (omega arith) (c .before .before .before .before .loop .row) (c .max-of .result) (c .before .before .before .before .loop .inv .2) (c .max-of .ensures) (c .before .before .before .before .loop .inv .1))
+loop-again c = (
+  omega arith,
+  length-set (c .before .before .before .before .loop .row) (c .before .before .before .before .loop .i) (c .max-of .result) ∙ c .before .before .before .before .loop .inv .1,
+  more (c .before .before .before .before .before .before .before .args .row .now) (c .before .before .before .before .before .before .before .args .other .now) (c .before .before .before .before .before .before .before .pre) (c .before .before .before .before .loop .i) (omega arith) (c .before .before .before .before .loop .row) (c .max-of .result) (c .before .before .before .before .loop .inv .2) (c .max-of .ensures) (c .before .before .before .before .loop .inv .1),
+)
 
 same-length : tie.Need-same-length Inv-loop μ-loop
 same-length c = search needs
