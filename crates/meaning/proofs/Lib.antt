@@ -3,3 +3,4 @@ pub mod PlaceLaws
 pub mod RowLaws
 pub mod TableLaws
 pub mod StepLaws
+pub mod SoundLaws
