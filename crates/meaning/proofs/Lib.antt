@@ -3,4 +3,5 @@ pub mod PlaceLaws
 pub mod RowLaws
 pub mod TableLaws
 pub mod StepLaws
+pub mod PutLaws
 pub mod SoundLaws
