@@ -8,18 +8,30 @@ use native.Mathlib.Omega.{arith}
 use lib.ListN.{length, getD, set, take, drop, replicate, length-set, length-append, length-replicate}
 use lib.Seq.{take-suc, take-take, drop-cons}
 use Rattle.meaning.specs.declared.Record.{Record}
-use Rattle.meaning.specs.Rows.{recordAt, records, words}
+use Rattle.meaning.specs.Rows.{recordAt, records, words, above}
 use Rattle.meaning.specs.Table.{Node, tableWords, nodesMost, logMost, summaryAt, acksAt, heldAt, logAt, part, place, count, held, node, putNode}
 use Rattle.meaning.specs.Node.{wrote, opened, finished, purged}
 use Rattle.meaning.proofs.PlaceLaws.{
-  length-place, getD-away, getD-within, getD-part, length-part, part-same, part-away, place-part, place-append, place-none, place-over, place-inner, set-place
+  length-place,
+  getD-away,
+  getD-within,
+  getD-part,
+  length-part,
+  part-same,
+  part-away,
+  place-part,
+  place-append,
+  place-none,
+  place-over,
+  place-inner,
+  set-place,
 }
-use Rattle.meaning.proofs.RowLaws.{length-records, length-words, words-append, words-none}
+use Rattle.meaning.proofs.RowLaws.{length-records, length-words, length-above, words-append, words-none}
 use Rattle.meaning.proofs.TableLaws.{Sound, logWords}
 
 -- four elements more of a beginning
 take-four :
-  (w : List ℕ) (m : ℕ) → m + 4 ≤ length w → take (m + 4) w ≡ take m w ++ (getD w m 0 ∷ getD w (m + 1) 0 ∷ getD w (m + 2) 0 ∷ getD w (m + 3) 0 ∷ [])
+    (w : List ℕ) (m : ℕ) → m + 4 ≤ length w → take (m + 4) w ≡ take m w ++ (getD w m 0 ∷ getD w (m + 1) 0 ∷ getD w (m + 2) 0 ∷ getD w (m + 3) 0 ∷ [])
 take-four w m h =
     let a : take (suc m) w ≡ take m w ++ (getD w m 0 ∷ []) = take-suc w m 0 (omega arith) in
     let b : take (suc (suc m)) w ≡ take (suc m) w ++ (getD w (suc m) 0 ∷ []) = take-suc w (suc m) 0 (omega arith) in
@@ -44,6 +56,14 @@ part-part at k m t h = take-take m k (drop at t) h
 part-one : (i : ℕ) (v : List ℕ) → i < length v → part i 1 v ≡ getD v i 0 ∷ []
 unfolding part
 part-one i v b = ap (take 1) (drop-cons v i 0 b)
+
+acks-same : (t : List ℕ) (p : ℕ) (v : List ℕ) → place (acksAt p) (part (acksAt p) (count t) t) v ≡ v → place (acksAt p) (node t p .acks) v ≡ v
+unfolding node
+acks-same t p v e = e
+
+summary-same : (t : List ℕ) (p : ℕ) (v : List ℕ) → place (summaryAt p) (part (summaryAt p) (count t) t) v ≡ v → place (summaryAt p) (node t p .summary) v ≡ v
+unfolding node
+summary-same t p v e = e
 
 held-word : (t : List ℕ) (p : ℕ) → getD t (heldAt p) 0 ≡ held t p
 unfolding held
@@ -86,10 +106,10 @@ module _ (t : List ℕ) (s : Sound t) (p : ℕ) (h : p < count t) where
       let lh = length-part (logAt p) (4 * held t p) t (omega arith) in
       let z : 4 * (held t p - length (x .log)) ≡ 0 = omega arith in
       let w : logWords p x t ≡ part (logAt p) (4 * held t p) t ++ words rs =
-        ap₂ (λ (y : List Record) (m : ℕ). words y ++ replicate m 0) e z ∙
-        append-nil (words (node t p .log ++ rs)) ∙
-        words-append (node t p .log) rs ∙
-        ap (λ (y : List ℕ). y ++ words rs) log-words
+      ap₂ (λ (y : List Record) (m : ℕ). words y ++ replicate m 0) e z ∙
+      append-nil (words (node t p .log ++ rs)) ∙
+      words-append (node t p .log) rs ∙
+      ap (λ (y : List ℕ). y ++ words rs) log-words
       in
       ap (λ (y : List ℕ). place (logAt p) y t) w ∙
       sym (place-append (logAt p) (logAt p + 4 * held t p) (part (logAt p) (4 * held t p) t) (words rs) t (omega arith) (omega arith)) ∙
@@ -109,8 +129,8 @@ module _ (t : List ℕ) (s : Sound t) (p : ℕ) (h : p < count t) where
       ap (λ (y : List ℕ). place at y u) (sym e) ∙ place-part at (count t) u (omega arith)
 
   pub put-row-set :
-    (at i j v : ℕ) (u : List ℕ) → j ≡ at + i → i < count t → length u ≡ tableWords → at + nodesMost ≤ tableWords → part at (count t) u ≡ part at (count t) t →
-    place at (set (part at (count t) t) i v) u ≡ place j (v ∷ []) u
+      (at i j v : ℕ) (u : List ℕ) → j ≡ at + i → i < count t → length u ≡ tableWords → at + nodesMost ≤ tableWords → part at (count t) u ≡ part at (count t) t →
+      place at (set (part at (count t) t) i v) u ≡ place j (v ∷ []) u
   put-row-set at i j v u ej b lu inside e =
       let g = high in
       let lp = length-part at (count t) u (omega arith) in
@@ -169,10 +189,10 @@ module _ (t : List ℕ) (s : Sound t) (p : ℕ) (h : p < count t) where
 
   -- Write: a record put behind the last, the held number, the own entry
   pub write-put :
-    (c b v : ℕ) → held t p < logMost →
-    place (summaryAt p + p) (c ∷ [])
-    (place (heldAt p) ((held t p + 1) ∷ []) (place (logAt p + 4 * held t p) (words (record { origin = p; timestamp = c; block = b; verdict = v } ∷ [])) t)) ≡
-    putNode p (wrote p c b v (node t p)) t
+      (c b v : ℕ) → held t p < logMost →
+      place (summaryAt p + p) (c ∷ [])
+      (place (heldAt p) ((held t p + 1) ∷ []) (place (logAt p + 4 * held t p) (words (record { origin = p; timestamp = c; block = b; verdict = v } ∷ [])) t)) ≡
+      putNode p (wrote p c b v (node t p)) t
   unfolding wrote node
   write-put c b v below =
       let r : Record = record { origin = p; timestamp = c; block = b; verdict = v } in
@@ -183,3 +203,45 @@ module _ (t : List ℕ) (s : Sound t) (p : ℕ) (h : p < count t) where
       (put-grown (r ∷ []) (omega arith) (wrote p c b v (node t p)) refl ∙
       ap (place (summaryAt p) (set (part (summaryAt p) (count t) t) p c)) (put-row-same (acksAt p) u lu (omega arith) (grown-part (r ∷ []) (omega arith) (acksAt p) (count t) (omega arith))) ∙
       put-row-set (summaryAt p) p (summaryAt p + p) c u refl h lu (omega arith) (grown-part (r ∷ []) (omega arith) (summaryAt p) (count t) (omega arith)))
+
+  -- Purge: the records left closed up, zeros over the freed rows, the held number
+  pub purge-put :
+      (limit k : ℕ) → k ≡ length (above limit (node t p .log)) →
+      place (heldAt p) (k ∷ [])
+      (place (logAt p + 4 * k) (replicate (4 * (held t p - k)) 0) (place (logAt p) (words (above limit (node t p .log))) t)) ≡
+      putNode p (record { summary = node t p .summary; acks = node t p .acks; log = above limit (node t p .log) }) t
+  unfolding putNode
+  purge-put limit k e =
+      let l = long in
+      let g = high in
+      let r = room in
+      let x : Node = record { summary = node t p .summary; acks = node t p .acks; log = above limit (node t p .log) } in
+      let rs : List Record = above limit (node t p .log) in
+      let z : List ℕ = replicate (4 * (held t p - k)) 0 in
+      let lw = length-words rs in
+      let lz : length z ≡ 4 * (held t p - k) = length-replicate (4 * (held t p - k)) 0 in
+      let few = length-above limit (node t p .log) in
+      let ll = log-length in
+      let ly = length-append (words rs) z in
+      let u : List ℕ = place (logAt p) (words rs ++ z) t in
+      let fu : logAt p + length (words rs ++ z) ≤ length t = omega arith in
+      let lu : length u ≡ tableWords = length-place (logAt p) (words rs ++ z) t fu ∙ l in
+      let v : List ℕ = place (heldAt p) (k ∷ []) u in
+      let fv : heldAt p + 1 ≤ length u = omega arith in
+      let lv : length v ≡ tableWords = length-place (heldAt p) (k ∷ []) u fv ∙ lu in
+      let kept : (at : ℕ) → at + count t ≤ heldAt 0 → part at (count t) v ≡ part at (count t) t =
+      λ at inside.
+      part-away at (count t) (heldAt p) (k ∷ []) u fv (omega arith) (λ a b. omega arith) ∙
+      part-away at (count t) (logAt p) (words rs ++ z) t fu (omega arith) (λ a b. omega arith)
+      in
+      ap (place (heldAt p) (k ∷ [])) (place-append (logAt p) (logAt p + 4 * k) (words rs) z t (omega arith) (omega arith)) ∙
+      sym
+      (ap (λ (m : ℕ). place (summaryAt p) (x .summary) (place (acksAt p) (x .acks) (place (heldAt p) (m ∷ []) (place (logAt p) (words rs ++ replicate (4 * (held t p - m)) 0) t)))) (sym e) ∙
+      ap (place (summaryAt p) (x .summary)) (row-acks v lv (kept (acksAt p) (omega arith))) ∙
+      row-summary v lv (kept (summaryAt p) (omega arith)))
+    where
+      row-acks : (v : List ℕ) → length v ≡ tableWords → part (acksAt p) (count t) v ≡ part (acksAt p) (count t) t → place (acksAt p) (node t p .acks) v ≡ v
+      row-acks v lv e = let g = high in acks-same t p v (put-row-same (acksAt p) v lv (omega arith) e)
+
+      row-summary : (v : List ℕ) → length v ≡ tableWords → part (summaryAt p) (count t) v ≡ part (summaryAt p) (count t) t → place (summaryAt p) (node t p .summary) v ≡ v
+      row-summary v lv e = let g = high in summary-same t p v (put-row-same (summaryAt p) v lv (omega arith) e)

@@ -325,14 +325,14 @@ accept t x h = (rw h, rw h)
 
 -- The refusals of a sound table, by the kind of action
 pub refusal-sound :
-  (t : List ℕ) → Sound t → (x : Action) →
-  refusal t x ≡ given (outcomeAbove x) 2 (given (nodeAbsent (count t) x) 3 (given (nodeTwice x) 4 (given (clockBack t x) 5 (given (noRoom t x) 6 0))))
+    (t : List ℕ) → Sound t → (x : Action) →
+    refusal t x ≡ given (outcomeAbove x) 2 (given (nodeAbsent (count t) x) 3 (given (nodeTwice x) 4 (given (clockBack t x) 5 (given (noRoom t x) 6 0))))
 unfolding refusal
 refusal-sound t s x = rw (facts-sound t s)
 
 pub write-refusal :
-  (t : List ℕ) → Sound t → (p c b v : ℕ) →
-  refusal t (Write p c b v) ≡ given (leb (count t) p) 3 (given (leb c (own p (node t p))) 5 (given (leb logMost (length (node t p .log))) 6 0))
+    (t : List ℕ) → Sound t → (p c b v : ℕ) →
+    refusal t (Write p c b v) ≡ given (leb (count t) p) 3 (given (leb c (own p (node t p))) 5 (given (leb logMost (length (node t p .log))) 6 0))
 unfolding outcomeAbove nodeAbsent nodeTwice clockBack noRoom
 write-refusal t s p c b v = refusal-sound t s (Write p c b v)
 

@@ -6,8 +6,11 @@ ghost use Rattle.meaning.specs.Table.{logMost, count, held, node, putNode};
 ghost use Rattle.meaning.specs.Node.{wrote};
 ghost use Rattle.meaning.specs.Steps.{reply, after};
 ghost use Rattle.meaning.proofs.TableLaws.{Sound};
-use super::look::{held_of, nodes_of, own_of};
-use meaning::{Record, Reply};
+use super::look::held_of;
+use super::look::nodes_of;
+use super::look::own_of;
+use meaning::Record;
+use meaning::Reply;
 use rows::log::put_record;
 use rows::row::put_word;
 

@@ -22,16 +22,16 @@ use Rattle.rows.proofs.log.put_record.Reads as put-record-reads
 use Rattle.rows.proofs.row.put_word.Reads as put-word-reads
 
 whole :
-  (t : List ℕ) (s : Sound t) (p : ℕ) (h : p < count t) (k : ℕ) (r : Record) (at₁ at₂ at₃ : ℕ) (u v w : List ℕ) →
-  k ≡ held t p → k < logMost → r .origin ≡ p → at₁ ≡ logAt p → at₂ ≡ heldAt p → at₃ ≡ summaryAt p →
-  u ≡ place (at₁ + 4 * k) (words (r ∷ [])) t → v ≡ place at₂ ((k + 1) ∷ []) u → w ≡ place (at₃ + p) (r .timestamp ∷ []) v →
-  w ≡ putNode p (wrote p (r .timestamp) (r .block) (r .verdict) (node t p)) t
+    (t : List ℕ) (s : Sound t) (p : ℕ) (h : p < count t) (k : ℕ) (r : Record) (at₁ at₂ at₃ : ℕ) (u v w : List ℕ) →
+    k ≡ held t p → k < logMost → r .origin ≡ p → at₁ ≡ logAt p → at₂ ≡ heldAt p → at₃ ≡ summaryAt p →
+    u ≡ place (at₁ + 4 * k) (words (r ∷ [])) t → v ≡ place at₂ ((k + 1) ∷ []) u → w ≡ place (at₃ + p) (r .timestamp ∷ []) v →
+    w ≡ putNode p (wrote p (r .timestamp) (r .block) (r .verdict) (node t p)) t
 whole t s p h k r at₁ at₂ at₃ u v w ek below eo e₁ e₂ e₃ eu ev ew =
     let r′ : r ≡ record { origin = p; timestamp = r .timestamp; block = r .block; verdict = r .verdict } = λ i. record { origin = eo i; timestamp = r .timestamp; block = r .block; verdict = r .verdict } in
     let f : w ≡ place (summaryAt p + p) (r .timestamp ∷ []) (place (heldAt p) ((held t p + 1) ∷ []) (place (logAt p + 4 * held t p) (words (record { origin = p; timestamp = r .timestamp; block = r .block; verdict = r .verdict } ∷ [])) t)) =
-      ew ∙ ap₂ (λ (a : ℕ) (x : List ℕ). place (a + p) (r .timestamp ∷ []) x) e₃
-      (ev ∙ ap₂ (λ (a m : ℕ). place a ((m + 1) ∷ []) u) e₂ ek ∙
-      ap (place (heldAt p) ((held t p + 1) ∷ [])) (eu ∙ ap₂ (λ (a m : ℕ). place (a + 4 * m) (words (r ∷ [])) t) e₁ ek ∙ ap (λ (x : Record). place (logAt p + 4 * held t p) (words (x ∷ [])) t) r′))
+    ew ∙ ap₂ (λ (a : ℕ) (x : List ℕ). place (a + p) (r .timestamp ∷ []) x) e₃
+    (ev ∙ ap₂ (λ (a m : ℕ). place a ((m + 1) ∷ []) u) e₂ ek ∙
+    ap (place (heldAt p) ((held t p + 1) ∷ [])) (eu ∙ ap₂ (λ (a m : ℕ). place (a + 4 * m) (words (r ∷ [])) t) e₁ ek ∙ ap (λ (x : Record). place (logAt p + 4 * held t p) (words (x ∷ [])) t) r′))
     in
     f ∙ write-put t s p h (r .timestamp) (r .block) (r .verdict) (omega arith)
 

@@ -43,8 +43,8 @@ module _ (t : List ℕ) (s : Sound t) (p c b v : ℕ) where
   done n o k u e h f g ek w eu =
       let l = held-log t p in
       let a =
-        accept t (Write p c b v)
-        (write-refusal t s p c b v ∙ rw (lt-leb (count t) p (omega arith), lt-leb c (own p (node t p)) (omega arith), lt-leb logMost (length (node t p .log)) (omega arith)))
+      accept t (Write p c b v)
+      (write-refusal t s p c b v ∙ rw (lt-leb (count t) p (omega arith), lt-leb c (own p (node t p)) (omega arith), lt-leb logMost (length (node t p .log)) (omega arith)))
       in
       (a .0, eu ∙ a .1)
 
