@@ -4,3 +4,4 @@ pub mod RowLaws
 pub mod TableLaws
 pub mod StepLaws
 pub mod SoundLaws
+pub mod AccountLaws
