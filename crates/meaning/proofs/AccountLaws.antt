@@ -20,6 +20,7 @@ use mathlib.Core.List.{
   Sublistᴰ·refl,
   nodup-append,
   Nodup·sublist,
+  Sublist·subset,
 }
 use Prim.Native.Nat.{ℕ, zero, suc, _≤_, _<_, min, max}
 use native.Mathlib.Omega.{arith}
@@ -116,6 +117,10 @@ pub has-one : (r x : Record) → has r (x ∷ []) ≡ sameRecord r x
 unfolding has
 has-one r x = by-test (sameRecord r x) (λ e. cc) (λ e. cc)
 
+-- what a list less some elements has, the list has
+pub sublist-has : (xs ys : List Record) (r : Record) → Sublistᴰ xs ys → has r xs ≡ true → has r ys ≡ true
+sublist-has xs ys r s h = mem-has-any r ys (Sublist·subset ∣ s ∣₁ r ∣ has-mem r xs h ∣₁)
+
 -- Keeping -------------------------------------------------------------------------------------------------------------------------------
 
 pub has-keep : (f : Record → Bool) (r : Record) (xs : List Record) → has r (keep f xs) ≡ has r xs && f r
@@ -173,6 +178,24 @@ once-append xs ys p q apart =
 
 pub once-keep : (f : Record → Bool) (xs : List Record) → List·Nodup xs → List·Nodup (keep f xs)
 once-keep f xs p = Nodup·sublist ∣ keep-sub f xs ∣₁ p
+
+-- What an account lacks, and what is newer --------------------------------------------------------------------------------------------------
+
+pub has-lacking : (r : Record) (mine theirs : List Record) → has r (lacking mine theirs) ≡ has r theirs && not (has r mine)
+unfolding lacking
+has-lacking r mine theirs = has-keep (λ x. not (has x mine)) r theirs
+
+pub once-lacking : (mine theirs : List Record) → List·Nodup theirs → List·Nodup (lacking mine theirs)
+unfolding lacking
+once-lacking mine theirs p = once-keep (λ x. not (has x mine)) theirs p
+
+pub has-newer : (r : Record) (s : List ℕ) (xs : List Record) → has r (newer s xs) ≡ has r xs && not (covers s r)
+unfolding newer
+has-newer r s xs = has-keep (λ x. not (covers s x)) r xs
+
+pub newer-sublist : (s : List ℕ) {xs ys : List Record} → Sublistᴰ xs ys → Sublistᴰ (newer s xs) (newer s ys)
+unfolding newer
+newer-sublist s d = keep-sublist (λ x. not (covers s x)) d
 
 -- Rows ----------------------------------------------------------------------------------------------------------------------------------
 

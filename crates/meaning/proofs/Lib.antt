@@ -5,3 +5,4 @@ pub mod TableLaws
 pub mod StepLaws
 pub mod SoundLaws
 pub mod AccountLaws
+pub mod AccountInvariant
