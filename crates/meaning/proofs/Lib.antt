@@ -6,3 +6,4 @@ pub mod StepLaws
 pub mod SoundLaws
 pub mod AccountLaws
 pub mod AccountInvariant
+pub mod AccountSteps

@@ -1,0 +1,193 @@
+-- The invariant of demand 3 for a whole cluster, and that each action keeps it: write, session, purge, as they change the nodes.
+-- The nodes are any function from numbers to nodes, so a table of another form only says what its nodes are.
+use mathlib.Core.Path.{_≡_, refl, sym, ap, _∙_, subst}
+use mathlib.Core.Bool.{Bool, true, false, not, _&&_, _||_, cond}
+use mathlib.Core.List.{List, [], _∷_, _++_}
+use Prim.Native.Nat.{ℕ, zero, suc, _≤_, _<_, max}
+use native.Mathlib.Omega.{arith}
+use lib.ListN.{length, getD, set, length-set}
+use lib.Seq.{getD-set-same, getD-set-other}
+use lib.Dec.{leb, eqb}
+use borrow.Author.Tests.{leb-true, eqb-true, eqb-false, eq-eqb, ne-eqb, not-false}
+use Rattle.meaning.specs.declared.Record.{Record}
+use Rattle.meaning.specs.declared.Action.{Action}
+use Rattle.meaning.specs.declared.Action.the-variants.{Write, Session, Purge}
+use Rattle.meaning.specs.Rows.{keep, least, raise, covers, newer, above}
+use Rattle.meaning.specs.Table.{Node}
+use Rattle.meaning.specs.Node.{own, wrote, opened, finished, ended, purged}
+use Rattle.meaning.specs.Steps.{finishesA, finishesB}
+use Rattle.meaning.specs.Account.{sameRecord, has, lacking, Account, gains, gainsIf, noted}
+use Rattle.meaning.proofs.AccountLaws.{by-test, not-both, same-eq, same-refl, has-append, has-one, entry, least-le, raise-entry}
+use Rattle.meaning.proofs.AccountInvariant.{
+  World,
+  Stamped,
+  Grows,
+  Kept,
+  Acked,
+  stamped-grows,
+  kept-grows,
+  acked-grows,
+  kept-reading,
+  acked-entry,
+  kept-finished,
+  acked-raise,
+  kept-wrote,
+  kept-dropped,
+  log-written,
+  acked-covers,
+}
+
+-- A node and its account have the invariant.
+pub record Holds (n : ℕ) (w : World) (x : Node) (account : List Record) : Type 0 where
+  pub kept : Kept n w (x .summary) (x .log) account
+  pub acked : Acked n w (x .acks)
+
+-- what was written, and the summaries of the nodes
+abbrev pub world : (ℕ → Node) → Account → World
+world nodes x = record { written = x .written; summary = λ q. nodes q .summary }
+
+-- The whole cluster: every written record is stamped right, and every node below n has the invariant.
+pub record Whole (n : ℕ) (nodes : ℕ → Node) (x : Account) : Type 0 where
+  pub stamped : Stamped n (world nodes x)
+  pub holds : (q : ℕ) → q < n → Holds n (world nodes x) (nodes q) (x .of q)
+
+-- Helpers --------------------------------------------------------------------------------------------------------------------------------
+
+-- one number, and the others
+pub each : (P : ℕ → Type 0) (n p : ℕ) → P p → ((q : ℕ) → q < n → (q ≡ p → ⊥) → P q) → (q : ℕ) → q < n → P q
+each P n p here there q h = by-test (eqb q p) (λ e. subst P (sym (eqb-true q p e)) here) (λ e. there q h (eqb-false q p e))
+
+pub holds-at : (n : ℕ) (w : World) (x y : Node) (l m : List Record) → x ≡ y → l ≡ m → Holds n w y m → Holds n w x l
+holds-at n w x y l m e f h = rw (e, f) h
+
+pub holds-grows : (n : ℕ) (w v : World) → Grows n w v → (x : Node) (l : List Record) → Holds n w x l → Holds n v x l
+holds-grows n w v g x l h = record { kept = kept-grows n w v g (x .summary) (x .log) l (h .kept); acked = acked-grows n w v g (x .acks) (h .acked) }
+
+pub gains-here : (p : ℕ) (new : List Record) (of : ℕ → List Record) → gains p new of p ≡ of p ++ new
+unfolding gains
+gains-here p new of = let e = eq-eqb p p refl in cc
+
+pub gains-other : (p : ℕ) (new : List Record) (of : ℕ → List Record) (q : ℕ) → (q ≡ p → ⊥) → gains p new of q ≡ of q
+unfolding gains
+gains-other p new of q h = let e = ne-eqb q p h in cc
+
+-- an entry that is set to no less never goes down
+pub set-up : (s : List ℕ) (p c o : ℕ) → p < length s → entry s p ≤ c → entry s o ≤ entry (set s p c) o
+set-up s p c o below up =
+    by-test (eqb o p)
+    (λ e.
+    let q = eqb-true o p e in
+    subst (λ (i : ℕ). entry s i ≤ entry (set s p c) i) (sym q) (omega (arith, getD-set-same s p c 0 below)))
+    (λ e. omega (arith, getD-set-other s p o c 0 (eqb-false o p e)))
+
+-- Write ----------------------------------------------------------------------------------------------------------------------------------
+
+module _ (n : ℕ) (nodes nodes′ : ℕ → Node) (x : Account) (p c b v : ℕ) (below : p < n) (later : own p (nodes p) < c)
+    (here : nodes′ p ≡ wrote p c b v (nodes p)) (there : (q : ℕ) → q < n → (q ≡ p → ⊥) → nodes′ q ≡ nodes q) (k : Whole n nodes x) where
+  new : Record
+  new = record { origin = p; timestamp = c; block = b; verdict = v }
+
+  next : Account
+  next = noted (Write p c b v) x
+
+  gained : (r : Record) → has r (next .written) ≡ has r (x .written) || sameRecord r new
+  unfolding next new noted
+  gained r = has-append r (x .written) (new ∷ []) ∙ ap (λ (t : Bool). has r (x .written) || t) (has-one r new)
+
+  summary-here : nodes′ p .summary ≡ set (nodes p .summary) p c
+  unfolding wrote
+  summary-here = ap (λ (y : Node). y .summary) here
+
+  own-below : entry (nodes p .summary) p < c
+  unfolding own
+  own-below = later
+
+  long : length (nodes p .summary) ≡ n
+  long = k .holds p below .kept .wide
+
+  top : entry (nodes′ p .summary) p ≡ c
+  top = rw summary-here (getD-set-same (nodes p .summary) p c 0 (omega (arith, long)))
+
+  is-new : (r : Record) → has r (x .written) ≡ false → has r (next .written) ≡ true → r ≡ new
+  is-new r f t = let g = gained r in same-eq r new (cc)
+
+  write-grows : Grows n (world nodes x) (world nodes′ next)
+  unfolding new
+  write-grows =
+      record {
+        written = λ r h. let g = gained r in cc;
+        summary = λ q o h.
+            each (λ (i : ℕ). entry (nodes i .summary) o ≤ entry (nodes′ i .summary) o) n p
+            (rw summary-here (set-up (nodes p .summary) p c o (omega (arith, long)) (omega (arith, own-below))))
+            (λ i j ne. rw (there i j ne) (omega arith)) q h;
+        origin = λ r f t. rw (is-new r f t) below;
+        later = λ r f t. rw (is-new r f t) own-below;
+        reached = λ r f t. rw (is-new r f t) (omega (arith, top));
+      }
+
+  pub whole-write : Whole n nodes′ (noted (Write p c b v) x)
+  unfolding next new noted wrote
+  whole-write =
+      record {
+        stamped = stamped-grows n (world nodes x) (world nodes′ next) write-grows (k .stamped);
+        holds =
+            each (λ (q : ℕ). Holds n (world nodes′ next) (nodes′ q) (next .of q)) n p
+            (holds-at n (world nodes′ next) (nodes′ p) (wrote p c b v (nodes p)) (next .of p) (x .of p ++ (new ∷ [])) here
+            (gains-here p (new ∷ []) (x .of))
+            (record {
+              kept =
+                  kept-wrote n (world nodes x) (world nodes′ next) new (nodes p .log) (x .of p) write-grows (k .stamped) below own-below (omega (arith, top)) gained
+                  (k .holds p below .kept);
+              acked = acked-grows n (world nodes x) (world nodes′ next) write-grows (nodes p .acks) (k .holds p below .acked);
+            }))
+            (λ q h ne.
+            holds-at n (world nodes′ next) (nodes′ q) (nodes q) (next .of q) (x .of q) (there q h ne) (gains-other p (new ∷ []) (x .of) q ne)
+            (holds-grows n (world nodes x) (world nodes′ next) write-grows (nodes q) (x .of q) (k .holds q h)));
+      }
+
+-- Purge ----------------------------------------------------------------------------------------------------------------------------------
+
+module _ (n : ℕ) (nodes nodes′ : ℕ → Node) (x : Account) (p : ℕ) (below : p < n)
+    (here : nodes′ p ≡ purged (nodes p)) (there : (q : ℕ) → q < n → (q ≡ p → ⊥) → nodes′ q ≡ nodes q) (k : Whole n nodes x) where
+  same-summary : (q : ℕ) → q < n → nodes′ q .summary ≡ nodes q .summary
+  unfolding purged
+  same-summary = each (λ (q : ℕ). nodes′ q .summary ≡ nodes q .summary) n p (ap (λ (y : Node). y .summary) here) (λ q h ne. ap (λ (y : Node). y .summary) (there q h ne))
+
+  purge-grows : Grows n (world nodes x) (world nodes′ x)
+  purge-grows =
+      record {
+        written = λ r h. h;
+        summary = λ q o h. rw (same-summary q h) (omega arith);
+        origin = λ r f t. not-both (has r (x .written)) t f;
+        later = λ r f t. not-both (has r (x .written)) t f;
+        reached = λ r f t. not-both (has r (x .written)) t f;
+      }
+
+  purge-holds : Holds n (world nodes′ x) (nodes p) (x .of p)
+  purge-holds = holds-grows n (world nodes x) (world nodes′ x) purge-grows (nodes p) (x .of p) (k .holds p below)
+
+  purge-stamped : Stamped n (world nodes′ x)
+  purge-stamped = stamped-grows n (world nodes x) (world nodes′ x) purge-grows (k .stamped)
+
+  pub whole-purge : Whole n nodes′ (noted (Purge p) x)
+  unfolding noted purged above
+  whole-purge =
+      record {
+        stamped = purge-stamped;
+        holds =
+            each (λ (q : ℕ). Holds n (world nodes′ x) (nodes′ q) (x .of q)) n p
+            (holds-at n (world nodes′ x) (nodes′ p) (purged (nodes p)) (x .of p) (x .of p) here refl
+            (record {
+              kept =
+                  kept-dropped n (world nodes′ x) (λ r. not (leb (r .timestamp) (least (nodes p .acks)))) (nodes p .summary) (nodes p .log) (x .of p)
+                  (λ r h f.
+                  acked-covers n (world nodes′ x) (nodes p .acks) r (purge-holds .acked)
+                  (purge-stamped .origin r (log-written n (world nodes′ x) (nodes p .summary) (nodes p .log) (x .of p) r (purge-holds .kept) h))
+                  (leb-true (r .timestamp) (least (nodes p .acks)) (not-false (leb (r .timestamp) (least (nodes p .acks))) f)))
+                  (purge-holds .kept);
+              acked = purge-holds .acked;
+            }))
+            (λ q h ne.
+            holds-at n (world nodes′ x) (nodes′ q) (nodes q) (x .of q) (x .of q) (there q h ne) refl
+            (holds-grows n (world nodes x) (world nodes′ x) purge-grows (nodes q) (x .of q) (k .holds q h)));
+      }
