@@ -191,3 +191,157 @@ module _ (n : ℕ) (nodes nodes′ : ℕ → Node) (x : Account) (p : ℕ) (belo
             holds-at n (world nodes′ x) (nodes′ q) (nodes q) (x .of q) (x .of q) (there q h ne) refl
             (holds-grows n (world nodes x) (world nodes′ x) purge-grows (nodes q) (x .of q) (k .holds q h)));
       }
+
+-- Session --------------------------------------------------------------------------------------------------------------------------------
+
+-- what a side's account becomes: with all that the partner's held and it lacked, if it finishes
+abbrev pub taken : Bool → List Record → List Record → List Record
+taken true mine theirs = mine ++ lacking mine theirs
+taken false mine theirs = mine
+
+-- the two sides' accounts, whichever finish
+pub taken-a : (f g : Bool) (a b : ℕ) (of : ℕ → List Record) → (a ≡ b → ⊥) →
+    gainsIf g b (lacking (of b) (of a)) (gainsIf f a (lacking (of a) (of b)) of) a ≡ taken f (of a) (of b)
+taken-a true true a b of ne = gains-other b (lacking (of b) (of a)) (gains a (lacking (of a) (of b)) of) a ne ∙ gains-here a (lacking (of a) (of b)) of
+taken-a true false a b of ne = gains-here a (lacking (of a) (of b)) of
+taken-a false true a b of ne = gains-other b (lacking (of b) (of a)) of a ne
+taken-a false false a b of ne = refl
+
+pub taken-b : (f g : Bool) (a b : ℕ) (of : ℕ → List Record) → (b ≡ a → ⊥) →
+    gainsIf g b (lacking (of b) (of a)) (gainsIf f a (lacking (of a) (of b)) of) b ≡ taken g (of b) (of a)
+taken-b true true a b of ne =
+    gains-here b (lacking (of b) (of a)) (gains a (lacking (of a) (of b)) of) ∙
+    ap (λ (l : List Record). l ++ lacking (of b) (of a)) (gains-other a (lacking (of a) (of b)) of b ne)
+taken-b true false a b of ne = gains-other a (lacking (of a) (of b)) of b ne
+taken-b false true a b of ne = gains-here b (lacking (of b) (of a)) of
+taken-b false false a b of ne = refl
+
+pub taken-other : (f g : Bool) (a b : ℕ) (of : ℕ → List Record) (q : ℕ) → (q ≡ a → ⊥) → (q ≡ b → ⊥) →
+    gainsIf g b (lacking (of b) (of a)) (gainsIf f a (lacking (of a) (of b)) of) q ≡ of q
+taken-other true true a b of q na nb = gains-other b (lacking (of b) (of a)) (gains a (lacking (of a) (of b)) of) q nb ∙ gains-other a (lacking (of a) (of b)) of q na
+taken-other true false a b of q na nb = gains-other a (lacking (of a) (of b)) of q na
+taken-other false true a b of q na nb = gains-other b (lacking (of b) (of a)) of q nb
+taken-other false false a b of q na nb = refl
+
+-- a side that ends has the invariant if both starting nodes have it
+pub holds-ended : (n : ℕ) (w : World) (f : Bool) (mine theirs : Node) (l m : List Record) → Holds n w mine l → Holds n w theirs m →
+    Holds n w (ended f mine theirs) (taken f l m)
+unfolding finished
+holds-ended n w true mine theirs l m h k =
+    record {
+      kept = kept-finished n w (mine .summary) (theirs .summary) (mine .log) (theirs .log) l m (h .kept) (k .kept);
+      acked = acked-raise n w (mine .acks) (theirs .acks) (h .acked) (k .acked);
+    }
+holds-ended n w false mine theirs l m h k = h
+
+-- ending never lowers a summary entry
+pub ended-up : (f : Bool) (mine theirs : Node) (o : ℕ) → length (mine .summary) ≡ length (theirs .summary) →
+    entry (mine .summary) o ≤ entry (ended f mine theirs .summary) o
+unfolding finished
+ended-up true mine theirs o e = omega (arith, raise-entry (mine .summary) (theirs .summary) o e)
+ended-up false mine theirs o e = omega arith
+
+pub opened-up : (p c : ℕ) (x : Node) (o : ℕ) → p < length (x .summary) → own p x ≤ c → entry (x .summary) o ≤ entry (opened p c x .summary) o
+unfolding opened own
+opened-up p c x o below up = set-up (x .summary) p c o below up
+
+pub opened-long : (p c : ℕ) (x : Node) → length (opened p c x .summary) ≡ length (x .summary)
+unfolding opened
+opened-long p c x = length-set (x .summary) p c
+
+-- An opened node has the invariant in a world in which nothing more is written, and whose summary for it is no less than its starting one.
+pub holds-opened : (n : ℕ) (nodes nodes′ : ℕ → Node) (x y : Account) (p c : ℕ) → Grows n (world nodes x) (world nodes′ y) → y .written ≡ x .written →
+    p < n → own p (nodes p) ≤ c → ((o : ℕ) → entry (opened p c (nodes p) .summary) o ≤ entry (nodes′ p .summary) o) → Whole n nodes x →
+    Holds n (world nodes′ y) (opened p c (nodes p)) (x .of p)
+unfolding opened own
+holds-opened n nodes nodes′ x y p c g same below up over k =
+    let h = holds-grows n (world nodes x) (world nodes′ y) g (nodes p) (x .of p) (k .holds p below) in
+    let long = k .holds p below .kept .wide in
+    let top = over p in
+    let at = getD-set-same (nodes p .summary) p c 0 (omega arith) in
+    record {
+      kept =
+          kept-reading n (world nodes′ y) p c (nodes p .summary) (nodes p .log) (x .of p) below up (omega arith)
+          (λ r written o.
+          let z : has r (x .written) ≡ true = subst (λ (l : List Record). has r l ≡ true) same written in
+          rw o at (k .stamped .reached r z))
+          (h .kept);
+      acked =
+          acked-entry n (world nodes′ y) p (least (set (nodes p .summary) p c)) (nodes p .acks) below
+          (λ o j.
+          omega (arith, over o, least-le (set (nodes p .summary) p c) o (omega (arith, length-set (nodes p .summary) p c))))
+          (h .acked);
+    }
+
+module _ (n : ℕ) (nodes nodes′ : ℕ → Node) (x : Account) (a b ca cb outcome : ℕ) (belowA : a < n) (belowB : b < n) (apart : a ≡ b → ⊥)
+    (upA : own a (nodes a) ≤ ca) (upB : own b (nodes b) ≤ cb)
+    (hereA : nodes′ a ≡ ended (finishesA outcome) (opened a ca (nodes a)) (opened b cb (nodes b)))
+    (hereB : nodes′ b ≡ ended (finishesB outcome) (opened b cb (nodes b)) (opened a ca (nodes a)))
+    (there : (q : ℕ) → q < n → (q ≡ a → ⊥) → (q ≡ b → ⊥) → nodes′ q ≡ nodes q) (k : Whole n nodes x) where
+  longA : length (nodes a .summary) ≡ n
+  longA = k .holds a belowA .kept .wide
+
+  longB : length (nodes b .summary) ≡ n
+  longB = k .holds b belowB .kept .wide
+
+  overA : (o : ℕ) → entry (opened a ca (nodes a) .summary) o ≤ entry (nodes′ a .summary) o
+  overA o =
+      rw hereA
+      (ended-up (finishesA outcome) (opened a ca (nodes a)) (opened b cb (nodes b)) o
+      (opened-long a ca (nodes a) ∙ longA ∙ sym longB ∙ sym (opened-long b cb (nodes b))))
+
+  overB : (o : ℕ) → entry (opened b cb (nodes b) .summary) o ≤ entry (nodes′ b .summary) o
+  overB o =
+      rw hereB
+      (ended-up (finishesB outcome) (opened b cb (nodes b)) (opened a ca (nodes a)) o
+      (opened-long b cb (nodes b) ∙ longB ∙ sym longA ∙ sym (opened-long a ca (nodes a))))
+
+  met : Account
+  met = noted (Session a b ca cb outcome) x
+
+  session-grows : Grows n (world nodes x) (world nodes′ met)
+  unfolding met noted
+  session-grows =
+      record {
+        written = λ r h. h;
+        summary = λ q o h.
+            each (λ (i : ℕ). entry (nodes i .summary) o ≤ entry (nodes′ i .summary) o) n a
+            (omega (arith, overA o, opened-up a ca (nodes a) o (omega (arith, longA)) upA))
+            (λ i j ne.
+            each (λ (m : ℕ). (m ≡ a → ⊥) → entry (nodes m .summary) o ≤ entry (nodes′ m .summary) o) n b
+            (λ na. omega (arith, overB o, opened-up b cb (nodes b) o (omega (arith, longB)) upB))
+            (λ m l nb na. rw (there m l na nb) (omega arith)) i j ne)
+            q h;
+        origin = λ r f t. not-both (has r (x .written)) t f;
+        later = λ r f t. not-both (has r (x .written)) t f;
+        reached = λ r f t. not-both (has r (x .written)) t f;
+      }
+
+  startA : Holds n (world nodes′ met) (opened a ca (nodes a)) (x .of a)
+  unfolding met noted
+  startA = holds-opened n nodes nodes′ x met a ca session-grows refl belowA upA overA k
+
+  startB : Holds n (world nodes′ met) (opened b cb (nodes b)) (x .of b)
+  unfolding met noted
+  startB = holds-opened n nodes nodes′ x met b cb session-grows refl belowB upB overB k
+
+  pub whole-session : Whole n nodes′ (noted (Session a b ca cb outcome) x)
+  unfolding met noted
+  whole-session =
+      record {
+        stamped = stamped-grows n (world nodes x) (world nodes′ met) session-grows (k .stamped);
+        holds =
+            each (λ (q : ℕ). Holds n (world nodes′ met) (nodes′ q) (met .of q)) n a
+            (holds-at n (world nodes′ met) (nodes′ a) _ (met .of a) _ hereA (taken-a (finishesA outcome) (finishesB outcome) a b (x .of) apart)
+            (holds-ended n (world nodes′ met) (finishesA outcome) (opened a ca (nodes a)) (opened b cb (nodes b)) (x .of a) (x .of b) startA startB))
+            (λ i j ne.
+            each (λ (q : ℕ). (q ≡ a → ⊥) → Holds n (world nodes′ met) (nodes′ q) (met .of q)) n b
+            (λ na.
+            holds-at n (world nodes′ met) (nodes′ b) _ (met .of b) _ hereB (taken-b (finishesA outcome) (finishesB outcome) a b (x .of) na)
+            (holds-ended n (world nodes′ met) (finishesB outcome) (opened b cb (nodes b)) (opened a ca (nodes a)) (x .of b) (x .of a) startB startA))
+            (λ q h nb na.
+            holds-at n (world nodes′ met) (nodes′ q) (nodes q) (met .of q) (x .of q) (there q h na nb)
+            (taken-other (finishesA outcome) (finishesB outcome) a b (x .of) q na nb)
+            (holds-grows n (world nodes x) (world nodes′ met) session-grows (nodes q) (x .of q) (k .holds q h)))
+            i j ne);
+      }
