@@ -15,14 +15,11 @@ use borrow.Author.Tests.{leb-true, eqb-true, eqb-false, not-true, not-false}
 use Rattle.meaning.specs.declared.Record.{Record}
 use Rattle.meaning.specs.Rows.{keep, least, raise, covers, newer, above}
 use Rattle.meaning.specs.Account.{sameRecord, has, lacking}
+use Rattle.meaning.proofs.RowLaws.{and-left, and-right, and-both}
+use Rattle.meaning.proofs.StepLaws.{or-left, or-right, length-raise}
 use Rattle.meaning.proofs.AccountLaws.{
   by-test,
   not-both,
-  and-left,
-  and-right,
-  and-both,
-  or-left,
-  or-right,
   same-eq,
   same-refl,
   has-append,
@@ -40,7 +37,6 @@ use Rattle.meaning.proofs.AccountLaws.{
   once-keep,
   entry,
   least-le,
-  raise-length,
   raise-entry,
   covers-le,
   le-covers,
@@ -202,7 +198,7 @@ pub kept-finished : (n : ℕ) (w : World) (s t : List ℕ) (log log′ l m : Lis
     Kept n w (raise s t) (log ++ newer s log′) (l ++ lacking l m)
 kept-finished n w s t log log′ l m mine theirs =
     record {
-      wide = raise-length s t lengths ∙ mine .wide;
+      wide = length-raise s t n (mine .wide) (theirs .wide);
       behind = λ o h. omega (arith, raise-entry s t o lengths, mine .behind o h, theirs .behind o h);
       exact = exact;
       once = once-append l (lacking l m) (mine .once) (once-lacking l m (theirs .once)) apart;
@@ -251,7 +247,7 @@ pub acked-raise : (n : ℕ) (w : World) (a b : List ℕ) → Acked n w a → Ack
 acked-raise n w a b mine theirs =
     let lengths : length a ≡ length b = mine .wide ∙ sym (theirs .wide) in
     record {
-      wide = raise-length a b lengths ∙ mine .wide;
+      wide = length-raise a b n (mine .wide) (theirs .wide);
       reached = λ q o h j. omega (arith, raise-entry a b q lengths, mine .reached q o h j, theirs .reached q o h j);
     }
 

@@ -31,6 +31,7 @@ use borrow.Author.Tests.{leb-true, leb-false, le-leb, lt-leb, eqb-true, eqb-fals
 use Rattle.meaning.specs.declared.Record.{Record}
 use Rattle.meaning.specs.Rows.{keepIf, keep, least, raise, covers, newer, above}
 use Rattle.meaning.specs.Account.{sameRecord, has, lacking}
+use Rattle.meaning.proofs.RowLaws.{and-left, and-right, and-both}
 
 -- Tests ---------------------------------------------------------------------------------------------------------------------------------
 
@@ -41,25 +42,6 @@ by-test false f g = g refl
 
 pub not-both : {C : Type 0} (b : Bool) → b ≡ true → b ≡ false → C
 not-both b p q = absurd (let z : _≡_ {A = ℕ} 0 1 = cc in omega arith)
-
-pub and-left : (a b : Bool) → a && b ≡ true → a ≡ true
-and-left true b h = refl
-and-left false b h = h
-
-pub and-right : (a b : Bool) → a && b ≡ true → b ≡ true
-and-right true b h = h
-and-right false b h = not-both true refl (sym h)
-
-pub and-both : (a b : Bool) → a ≡ true → b ≡ true → a && b ≡ true
-and-both a b p q = cc
-
-pub or-left : (a b : Bool) → a || b ≡ false → a ≡ false
-or-left true b h = h
-or-left false b h = refl
-
-pub or-right : (a b : Bool) → a || b ≡ false → b ≡ false
-or-right true b h = not-both true refl h
-or-right false b h = h
 
 -- Membership ----------------------------------------------------------------------------------------------------------------------------
 
@@ -210,12 +192,6 @@ least-le (x ∷ []) zero h = omega arith
 least-le (x ∷ []) (suc i) h = absurd (omega arith)
 least-le (x ∷ (y ∷ ys)) zero h = omega arith
 least-le (x ∷ (y ∷ ys)) (suc i) h = omega (arith, least-le (y ∷ ys) i (omega arith))
-
-pub raise-length : (s t : List ℕ) → length s ≡ length t → length (raise s t) ≡ length s
-unfolding raise
-raise-length [] t h = refl
-raise-length (x ∷ xs) [] h = omega arith
-raise-length (x ∷ xs) (y ∷ ys) h = omega (arith, raise-length xs ys (omega arith))
 
 pub raise-entry : (s t : List ℕ) (i : ℕ) → length s ≡ length t → entry (raise s t) i ≡ max (entry s i) (entry t i)
 unfolding raise

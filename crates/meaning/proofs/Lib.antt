@@ -7,3 +7,4 @@ pub mod SoundLaws
 pub mod AccountLaws
 pub mod AccountInvariant
 pub mod AccountSteps
+pub mod AccountTable
