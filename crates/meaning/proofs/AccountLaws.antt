@@ -193,6 +193,16 @@ least-le (x ∷ []) (suc i) h = absurd (omega arith)
 least-le (x ∷ (y ∷ ys)) zero h = omega arith
 least-le (x ∷ (y ∷ ys)) (suc i) h = omega (arith, least-le (y ∷ ys) i (omega arith))
 
+-- what is at most every entry is at most the smallest
+pub le-least : (row : List ℕ) (a : ℕ) → 0 < length row → ((i : ℕ) → i < length row → a ≤ entry row i) → a ≤ least row
+unfolding least
+le-least [] a h under = absurd (omega arith)
+le-least (x ∷ []) a h under = under 0 (omega arith)
+le-least (x ∷ (y ∷ ys)) a h under =
+    let first = under 0 (omega arith) in
+    let rest = le-least (y ∷ ys) a (omega arith) (λ i j. under (suc i) (omega arith)) in
+    omega arith
+
 pub raise-entry : (s t : List ℕ) (i : ℕ) → length s ≡ length t → entry (raise s t) i ≡ max (entry s i) (entry t i)
 unfolding raise
 raise-entry [] [] i h = omega arith

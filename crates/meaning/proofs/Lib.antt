@@ -8,3 +8,5 @@ pub mod AccountLaws
 pub mod AccountInvariant
 pub mod AccountSteps
 pub mod AccountTable
+pub mod Demand3
+pub mod AccountCorollaries
