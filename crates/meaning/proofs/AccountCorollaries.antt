@@ -180,15 +180,15 @@ rises-acted t (Session a b ca cb o) x k w =
     (rises-trans (node t a) y (ended (finishesA o) y z) (rises-opened (count t) a ca (node t) x (f .0) (f .3) w)
     (rises-ended (count t) (finishesA o) y z (fa .summaryLong ∙ sym (fb .summaryLong)) (fa .acksLong ∙ sym (fb .acksLong)))))
     (λ i j ne.
-        each (λ (q : ℕ). (q ≡ a → ⊥) → Rises (node t q) (node (acted t (Session a b ca cb o)) q)) (count t) b
-        (λ na.
-            rises-at (node t b) (node (acted t (Session a b ca cb o)) b) (ended (finishesB o) z y) (session-b t s a b ca cb o (f .0) (f .1) (f .2) (k .room))
-            (rises-trans (node t b) z (ended (finishesB o) z y) (rises-opened (count t) b cb (node t) x (f .1) (f .4) w)
-            (rises-ended (count t) (finishesB o) z y (fb .summaryLong ∙ sym (fa .summaryLong)) (fb .acksLong ∙ sym (fa .acksLong)))))
-        (λ q h nb na.
-            rises-at (node t q) (node (acted t (Session a b ca cb o)) q) (node t q) (session-other t s a b ca cb o (f .0) (f .1) (f .2) (k .room) q h na nb)
-            (rises-refl (node t q)))
-        i j ne)
+    each (λ (q : ℕ). (q ≡ a → ⊥) → Rises (node t q) (node (acted t (Session a b ca cb o)) q)) (count t) b
+    (λ na.
+    rises-at (node t b) (node (acted t (Session a b ca cb o)) b) (ended (finishesB o) z y) (session-b t s a b ca cb o (f .0) (f .1) (f .2) (k .room))
+    (rises-trans (node t b) z (ended (finishesB o) z y) (rises-opened (count t) b cb (node t) x (f .1) (f .4) w)
+    (rises-ended (count t) (finishesB o) z y (fb .summaryLong ∙ sym (fa .summaryLong)) (fb .acksLong ∙ sym (fa .acksLong)))))
+    (λ q h nb na.
+    rises-at (node t q) (node (acted t (Session a b ca cb o)) q) (node t q) (session-other t s a b ca cb o (f .0) (f .1) (f .2) (k .room) q h na nb)
+    (rises-refl (node t q)))
+    i j ne)
 rises-acted t (Purge p) x k w =
     let f = purge-facts t p k in
     let s = k .isSound in

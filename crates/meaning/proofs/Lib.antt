@@ -10,3 +10,4 @@ pub mod AccountSteps
 pub mod AccountTable
 pub mod Demand3
 pub mod AccountCorollaries
+pub mod AccountJournals
