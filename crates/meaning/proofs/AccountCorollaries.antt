@@ -44,7 +44,8 @@ use Rattle.meaning.proofs.StepLaws.{
   after-sound,
   fresh-sound,
 }
-use Rattle.meaning.proofs.AccountSteps.{Whole, each, gains-here, gains-other, taken, taken-a, taken-b, taken-other, set-up, opened-up, opened-long, ended-up}
+use Rattle.meaning.proofs.AccountSteps.{Whole, each}
+use Rattle.meaning.proofs.AccountNodes.{set-up}
 use Rattle.meaning.proofs.AccountTable.{Sure, sure-fresh, sure-run, sure-stepped, sure-ran, stepped-accepted, stepped-refused}
 use Rattle.meaning.proofs.Demand3.{NothingLost, demand3}
 

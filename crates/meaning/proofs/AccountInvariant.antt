@@ -1,7 +1,7 @@
 -- What stays true of one node and its account, relative to what the cluster has written and summed up so far: the invariant of demand 3.
 -- It takes the node apart from the world, so that the starting values of a session have it in the world after the session, and a session
--- needs no world in between. A new action shows `Grows` of its two worlds and, at each node that it changes, one of the moves below
--- (`kept-reading`, `kept-finished`, `kept-wrote`, `kept-dropped`; `acked-entry`, `acked-raise`); every other node has `kept-grows`, `acked-grows`.
+-- needs no world in between. A new action shows `Grows` of its two worlds and, of each node that it changes, the facts of one of the records
+-- `Reading`, `Acking`, `Raising`, `Taking`, `Writing`, `Dropping`; every other node has `kept-grows` and `acked-grows`. No proof here then moves.
 use mathlib.Core.Path.{_≡_, refl, sym, ap, _∙_, subst}
 use mathlib.Core.Bool.{Bool, true, false, not, _&&_, _||_}
 use mathlib.Core.Logic.{_≢_}
@@ -16,7 +16,7 @@ use Rattle.meaning.specs.declared.Record.{Record}
 use Rattle.meaning.specs.Rows.{keep, least, raise, covers, newer, above}
 use Rattle.meaning.specs.Account.{sameRecord, has, lacking}
 use Rattle.meaning.proofs.RowLaws.{and-left, and-right, and-both}
-use Rattle.meaning.proofs.StepLaws.{or-left, or-right, length-raise}
+use Rattle.meaning.proofs.StepLaws.{or-left, or-right}
 use Rattle.meaning.proofs.AccountLaws.{
   by-test,
   not-both,
@@ -27,9 +27,7 @@ use Rattle.meaning.proofs.AccountLaws.{
   has-keep,
   sublist-has,
   has-lacking,
-  has-newer,
   once-lacking,
-  newer-sublist,
   keep-same,
   keep-sub,
   keep-sublist,
@@ -37,13 +35,12 @@ use Rattle.meaning.proofs.AccountLaws.{
   once-keep,
   entry,
   least-le,
-  raise-entry,
   covers-le,
   le-covers,
   lt-covers,
   not-covers-lt,
   covers-same,
-  covers-raise,
+  covers-max,
 }
 
 -- What a node is measured against: all that was written, and every node's summary.
@@ -123,14 +120,52 @@ kept-grows n w v g s log l k =
 pub acked-grows : (n : ℕ) (w v : World) → Grows n w v → (acks : List ℕ) → Acked n w acks → Acked n v acks
 acked-grows n w v g acks k = record { wide = k .wide; reached = λ q o h j. omega (arith, k .reached q o h j, g .summary q o h) }
 
--- An own entry is read anew: the opening of a session ----------------------------------------------------------------------------------------
+-- What a step may do to one node -------------------------------------------------------------------------------------------------------------------
 
--- The own entry p becomes a reading that is no less: nothing more is covered, since all that p wrote was covered already.
-pub kept-reading : (n : ℕ) (w : World) (p c : ℕ) (s : List ℕ) (log l : List Record) → p < n → entry s p ≤ c → c ≤ entry (w .summary p) p →
-    ((r : Record) → has r (w .written) ≡ true → r .origin ≡ p → r .timestamp ≤ entry s p) → Kept n w s log l → Kept n w (set s p c) log l
-kept-reading n w p c s log l below up top all k =
+-- The own entry p of a summary becomes a reading that is no less and that the world's summary of p has reached; every other entry stays.
+pub record Reading (n : ℕ) (w : World) (p : ℕ) (s s′ : List ℕ) : Type 0 where
+  pub wide : length s′ ≡ n
+  pub others : (o : ℕ) → (o ≡ p → ⊥) → entry s′ o ≡ entry s o
+  pub up : entry s p ≤ entry s′ p
+  pub top : entry s′ p ≤ entry (w .summary p) p
+
+-- The own acknowledgement p becomes a number that is at most every entry of p's summary; every other entry stays.
+pub record Acking (n : ℕ) (w : World) (p : ℕ) (a a′ : List ℕ) : Type 0 where
+  pub wide : length a′ ≡ n
+  pub others : (q : ℕ) → (q ≡ p → ⊥) → entry a′ q ≡ entry a q
+  pub under : (o : ℕ) → o < n → entry a′ p ≤ entry (w .summary p) o
+
+-- A row takes, entry by entry, the greater of its own and a partner's.
+pub record Raising (n : ℕ) (s t s′ : List ℕ) : Type 0 where
+  pub wide : length s′ ≡ n
+  pub greater : (o : ℕ) → entry s′ o ≡ max (entry s o) (entry t o)
+
+-- A log takes from a partner: in the order of the accounts, nothing held is lost, and all that the partner held and the own account l lacked is held.
+pub record Taking (log theirs log′ l m : List Record) : Type 0 where
+  pub order : Sublistᴰ log′ (l ++ lacking l m)
+  pub keeps : (r : Record) → has r log ≡ true → has r log′ ≡ true
+  pub takes : (r : Record) → has r theirs ≡ true → has r l ≡ false → has r log′ ≡ true
+
+-- The writer's own entry becomes the record's timestamp, and the record goes last in its log.
+pub record Writing (n : ℕ) (r : Record) (s s′ : List ℕ) (log log′ : List Record) : Type 0 where
+  pub wide : length s′ ≡ n
+  pub others : (o : ℕ) → (o ≡ r .origin → ⊥) → entry s′ o ≡ entry s o
+  pub own : entry s′ (r .origin) ≡ r .timestamp
+  pub last : log′ ≡ log ++ (r ∷ [])
+
+-- Records leave a log, the rest in their order, and every node's summary covers each that leaves.
+pub record Dropping (n : ℕ) (w : World) (log log′ : List Record) : Type 0 where
+  pub order : Sublistᴰ log′ log
+  pub gone : (r : Record) → has r log ≡ true → has r log′ ≡ false → (q : ℕ) → q < n → covers (w .summary q) r ≡ true
+
+-- Each of these keeps the invariant ------------------------------------------------------------------------------------------------------------
+
+-- nothing more is covered by a reading, since all that p wrote was covered already
+pub kept-reading : (n : ℕ) (w : World) (p : ℕ) (s s′ : List ℕ) (log l : List Record) → Reading n w p s s′ →
+    ((r : Record) → has r (w .written) ≡ true → r .origin ≡ p → r .timestamp ≤ entry s p) → Kept n w s log l → Kept n w s′ log l
+kept-reading n w p s s′ log l f all k =
     record {
-      wide = length-set s p c ∙ k .wide;
+      wide = f .wide;
       behind = behind;
       exact = exact;
       once = k .once;
@@ -138,18 +173,13 @@ kept-reading n w p c s log l below up top all k =
       known = k .known;
     }
   where
-    same : entry (set s p c) p ≡ c
-    same = getD-set-same s p c 0 (omega (arith, k .wide))
-
-    behind : (o : ℕ) → o < n → entry (set s p c) o ≤ entry (w .summary o) o
+    behind : (o : ℕ) → o < n → entry s′ o ≤ entry (w .summary o) o
     behind o h =
         by-test (eqb o p)
-        (λ e.
-        let q = eqb-true o p e in
-        subst (λ (i : ℕ). entry (set s p c) i ≤ entry (w .summary i) i) (sym q) (omega (arith, same)))
-        (λ e. omega (arith, getD-set-other s p o c 0 (eqb-false o p e), k .behind o h))
+        (λ e. subst (λ (i : ℕ). entry s′ i ≤ entry (w .summary i) i) (sym (eqb-true o p e)) (f .top))
+        (λ e. omega (arith, f .others o (eqb-false o p e), k .behind o h))
 
-    exact : (r : Record) → has r l ≡ has r (w .written) && covers (set s p c) r
+    exact : (r : Record) → has r l ≡ has r (w .written) && covers s′ r
     exact r =
         let e = k .exact r in
         by-test (eqb (r .origin) p)
@@ -159,139 +189,89 @@ kept-reading n w p c s log l below up top all k =
         (λ h.
         let t = all r h q in
         let a : covers s r ≡ true = le-covers s r (rw q t) in
-        let b : covers (set s p c) r ≡ true = le-covers (set s p c) r (rw q (omega (arith, same))) in
+        let b : covers s′ r ≡ true = le-covers s′ r (rw q (omega (arith, f .up))) in
         cc)
         (λ h. cc))
         (λ o.
-        let f = covers-same (set s p c) s r (getD-set-other s p (r .origin) c 0 (eqb-false (r .origin) p o)) in
+        let g = covers-same s′ s r (f .others (r .origin) (eqb-false (r .origin) p o)) in
         cc)
 
--- One acknowledgement entry becomes a number that is at most every entry of that node's summary.
-pub acked-entry : (n : ℕ) (w : World) (p a : ℕ) (acks : List ℕ) → p < n → ((o : ℕ) → o < n → a ≤ entry (w .summary p) o) → Acked n w acks →
-    Acked n w (set acks p a)
-acked-entry n w p a acks below under k =
+pub acked-acking : (n : ℕ) (w : World) (p : ℕ) (a a′ : List ℕ) → Acking n w p a a′ → Acked n w a → Acked n w a′
+acked-acking n w p a a′ f k =
     record {
-      wide = length-set acks p a ∙ k .wide;
+      wide = f .wide;
       reached = λ q o h j.
           by-test (eqb q p)
-          (λ e.
-          let f = eqb-true q p e in
-          let same : entry (set acks p a) p ≡ a = getD-set-same acks p a 0 (omega (arith, k .wide)) in
-          subst (λ (i : ℕ). entry (set acks p a) i ≤ entry (w .summary i) o) (sym f) (omega (arith, same, under o j)))
-          (λ e. omega (arith, getD-set-other acks p q a 0 (eqb-false q p e), k .reached q o h j));
+          (λ e. subst (λ (i : ℕ). entry a′ i ≤ entry (w .summary i) o) (sym (eqb-true q p e)) (f .under o j))
+          (λ e. omega (arith, f .others q (eqb-false q p e), k .reached q o h j));
     }
 
--- A session's side finishes -----------------------------------------------------------------------------------------------------------------
+pub acked-raising : (n : ℕ) (w : World) (a b a′ : List ℕ) → Raising n a b a′ → Acked n w a → Acked n w b → Acked n w a′
+acked-raising n w a b a′ f mine theirs =
+    record { wide = f .wide; reached = λ q o h j. omega (arith, f .greater q, mine .reached q o h j, theirs .reached q o h j) }
 
--- of the partner's account, the own one lacks exactly what the own summary does not cover
-pub lacking-newer : (n : ℕ) (w : World) (s t : List ℕ) (log log′ l m : List Record) → Kept n w s log l → Kept n w t log′ m → lacking l m ≡ newer s m
-unfolding lacking newer
-lacking-newer n w s t log log′ l m mine theirs =
-    keep-same (λ r. not (has r l)) (λ r. not (covers s r)) m
-    (λ r h.
-    let a = theirs .exact r in
-    let b = and-left (has r (w .written)) (covers t r) (sym a ∙ h) in
-    let c = mine .exact r in
-    cc)
-
-pub kept-finished : (n : ℕ) (w : World) (s t : List ℕ) (log log′ l m : List Record) → Kept n w s log l → Kept n w t log′ m →
-    Kept n w (raise s t) (log ++ newer s log′) (l ++ lacking l m)
-kept-finished n w s t log log′ l m mine theirs =
+-- A side that finishes: its account gains what the partner's held and it lacked.
+pub kept-taking : (n : ℕ) (w : World) (s t s′ : List ℕ) (log theirs log′ l m : List Record) → Raising n s t s′ → Taking log theirs log′ l m →
+    Kept n w s log l → Kept n w t theirs m → Kept n w s′ log′ (l ++ lacking l m)
+kept-taking n w s t s′ log theirs log′ l m f g mine other =
     record {
-      wide = length-raise s t n (mine .wide) (theirs .wide);
-      behind = λ o h. omega (arith, raise-entry s t o lengths, mine .behind o h, theirs .behind o h);
+      wide = f .wide;
+      behind = λ o h. omega (arith, f .greater o, mine .behind o h, other .behind o h);
       exact = exact;
-      once = once-append l (lacking l m) (mine .once) (once-lacking l m (theirs .once)) apart;
-      less = Sublistᴰ·append (mine .less) less;
+      once = once-append l (lacking l m) (mine .once) (once-lacking l m (other .once)) apart;
+      less = g .order;
       known = known;
     }
   where
-    lengths : length s ≡ length t
-    lengths = mine .wide ∙ sym (theirs .wide)
-
     apart : (r : Record) → has r l ≡ true → has r (lacking l m) ≡ false
     apart r h = let a = has-lacking r l m in by-test (has r m) (λ p. cc) (λ p. cc)
 
-    less : Sublistᴰ (newer s log′) (lacking l m)
-    less = rw (lacking-newer n w s t log log′ l m mine theirs) (newer-sublist s (theirs .less))
-
-    exact : (r : Record) → has r (l ++ lacking l m) ≡ has r (w .written) && covers (raise s t) r
+    exact : (r : Record) → has r (l ++ lacking l m) ≡ has r (w .written) && covers s′ r
     exact r =
         let a = has-append r l (lacking l m) in
         let b = has-lacking r l m in
         let c = mine .exact r in
-        let d = theirs .exact r in
-        let e = covers-raise s t r lengths in
+        let d = other .exact r in
+        let e = covers-max s t s′ r (f .greater (r .origin)) in
         by-test (has r (w .written))
         (λ h. by-test (covers s r) (λ p. cc) (λ p. by-test (covers t r) (λ q. cc) (λ q. cc)))
         (λ h. cc)
 
-    known : (r : Record) → has r (l ++ lacking l m) ≡ true → has r (log ++ newer s log′) ≡ false → (q : ℕ) → q < n → covers (w .summary q) r ≡ true
-    known r h g q j =
-        let a = has-append r log (newer s log′) in
-        let b = or-left (has r log) (has r (newer s log′)) (sym a ∙ g) in
-        let c = or-right (has r log) (has r (newer s log′)) (sym a ∙ g) in
+    known : (r : Record) → has r (l ++ lacking l m) ≡ true → has r log′ ≡ false → (q : ℕ) → q < n → covers (w .summary q) r ≡ true
+    known r h i q j =
         by-test (has r l)
-        (λ p. mine .known r p b q j)
+        (λ p. mine .known r p (by-test (has r log) (λ z. not-both (has r log′) (g .keeps r z) i) (λ z. z)) q j)
         (λ p.
         let d = has-append r l (lacking l m) in
         let e = has-lacking r l m in
-        let f : has r m ≡ true = by-test (has r m) (λ x. x) (λ x. cc) in
-        let u = mine .exact r in
-        let v = theirs .exact r in
-        let x = and-left (has r (w .written)) (covers t r) (sym v ∙ f) in
-        let y = has-newer r s log′ in
-        theirs .known r f (by-test (has r log′) (λ z. cc) (λ z. z)) q j)
+        let u : has r m ≡ true = by-test (has r m) (λ x. x) (λ x. cc) in
+        other .known r u (by-test (has r theirs) (λ z. not-both (has r log′) (g .takes r z p) i) (λ z. z)) q j)
 
-pub acked-raise : (n : ℕ) (w : World) (a b : List ℕ) → Acked n w a → Acked n w b → Acked n w (raise a b)
-acked-raise n w a b mine theirs =
-    let lengths : length a ≡ length b = mine .wide ∙ sym (theirs .wide) in
-    record {
-      wide = length-raise a b n (mine .wide) (theirs .wide);
-      reached = λ q o h j. omega (arith, raise-entry a b q lengths, mine .reached q o h j, theirs .reached q o h j);
-    }
-
--- A write ------------------------------------------------------------------------------------------------------------------------------------
-
--- The writer's summary was w's for it, and the record is the one that the world gains.
-pub kept-wrote : (n : ℕ) (w v : World) (r : Record) (log l : List Record) → Grows n w v → Stamped n w → r .origin < n →
+-- A write: the writer's summary was the world's for it, and the record is the one that the world gains.
+pub kept-writing : (n : ℕ) (w v : World) (r : Record) (s′ : List ℕ) (log log′ l : List Record) → Grows n w v → Stamped n w →
     entry (w .summary (r .origin)) (r .origin) < r .timestamp → r .timestamp ≤ entry (v .summary (r .origin)) (r .origin) →
-    ((x : Record) → has x (v .written) ≡ has x (w .written) || sameRecord x r) → Kept n w (w .summary (r .origin)) log l →
-    Kept n v (set (w .summary (r .origin)) (r .origin) (r .timestamp)) (log ++ (r ∷ [])) (l ++ (r ∷ []))
-kept-wrote n w v r log l g stamped below later top gained k =
+    ((x : Record) → has x (v .written) ≡ has x (w .written) || sameRecord x r) → Writing n r (w .summary (r .origin)) s′ log log′ →
+    Kept n w (w .summary (r .origin)) log l → Kept n v s′ log′ (l ++ (r ∷ []))
+kept-writing n w v r s′ log log′ l g stamped later top gained f k =
     record {
-      wide = length-set s p c ∙ k .wide;
+      wide = f .wide;
       behind = behind;
       exact = exact;
       once = once-append l (r ∷ []) (k .once) (pairwise-singleton (λ (a b : Record). a ≢ b) r) apart;
-      less = Sublistᴰ·append (k .less) (Sublistᴰ·refl (r ∷ []));
+      less = rw (f .last) (Sublistᴰ·append (k .less) (Sublistᴰ·refl (r ∷ [])));
       known = known;
     }
   where
-    p : ℕ
-    p = r .origin
-
-    c : ℕ
-    c = r .timestamp
-
-    s : List ℕ
-    s = w .summary (r .origin)
-
-    same : entry (set s p c) p ≡ c
-    same = getD-set-same s p c 0 (omega (arith, k .wide))
-
-    behind : (o : ℕ) → o < n → entry (set s p c) o ≤ entry (v .summary o) o
+    behind : (o : ℕ) → o < n → entry s′ o ≤ entry (v .summary o) o
     behind o h =
-        by-test (eqb o p)
-        (λ e.
-        let q = eqb-true o p e in
-        subst (λ (i : ℕ). entry (set s p c) i ≤ entry (v .summary i) i) (sym q) (omega (arith, same)))
-        (λ e. omega (arith, getD-set-other s p o c 0 (eqb-false o p e), k .behind o h, g .summary o o h))
+        by-test (eqb o (r .origin))
+        (λ e. subst (λ (i : ℕ). entry s′ i ≤ entry (v .summary i) i) (sym (eqb-true o (r .origin) e)) (omega (arith, f .own)))
+        (λ e. omega (arith, f .others o (eqb-false o (r .origin) e), k .behind o h, g .summary o o h))
 
     new : has r (w .written) ≡ false
     new = by-test (has r (w .written)) (λ h. absurd (omega (arith, stamped .reached r h))) (λ h. h)
 
-    exact : (x : Record) → has x (l ++ (r ∷ [])) ≡ has x (v .written) && covers (set s p c) x
+    exact : (x : Record) → has x (l ++ (r ∷ [])) ≡ has x (v .written) && covers s′ x
     exact x =
         let a = has-append x l (r ∷ []) in
         let b = has-one x r in
@@ -299,21 +279,21 @@ kept-wrote n w v r log l g stamped below later top gained k =
         let e = k .exact x in
         by-test (sameRecord x r)
         (λ h.
-        let f = same-eq x r h in
-        let u : covers (set s p c) r ≡ true = le-covers (set s p c) r (omega (arith, same)) in
+        let y = same-eq x r h in
+        let u : covers s′ r ≡ true = le-covers s′ r (omega (arith, f .own)) in
         by-test (has x (w .written)) (λ i. by-test (has x l) (λ j. cc) (λ j. cc)) (λ i. cc))
         (λ h.
         by-test (has x (w .written))
         (λ i.
-        by-test (eqb (x .origin) p)
+        by-test (eqb (x .origin) (r .origin))
         (λ o.
-        let q = eqb-true (x .origin) p o in
-        let y : x .timestamp ≤ entry s p = rw q at (stamped .reached x i) in
-        let f : covers s x ≡ true = le-covers s x (rw q y) in
-        let u : covers (set s p c) x ≡ true = le-covers (set s p c) x (rw q (omega (arith, same))) in
+        let q = eqb-true (x .origin) (r .origin) o in
+        let y : x .timestamp ≤ entry (w .summary (r .origin)) (r .origin) = rw q at (stamped .reached x i) in
+        let z : covers (w .summary (r .origin)) x ≡ true = le-covers (w .summary (r .origin)) x (rw q y) in
+        let u : covers s′ x ≡ true = le-covers s′ x (rw q (omega (arith, f .own))) in
         cc)
         (λ o.
-        let f = covers-same (set s p c) s x (getD-set-other s p (x .origin) c 0 (eqb-false (x .origin) p o)) in
+        let z = covers-same s′ (w .summary (r .origin)) x (f .others (x .origin) (eqb-false (x .origin) (r .origin) o)) in
         by-test (has x l) (λ j. cc) (λ j. cc)))
         (λ i. cc))
 
@@ -321,36 +301,30 @@ kept-wrote n w v r log l g stamped below later top gained k =
     apart x h =
         let a = has-one x r in
         let e = k .exact x in
-        by-test (sameRecord x r)
-        (λ f. let q = same-eq x r f in let z = new in cc)
-        (λ f. cc)
+        by-test (sameRecord x r) (λ y. let q = same-eq x r y in let z = new in cc) (λ y. cc)
 
-    known : (x : Record) → has x (l ++ (r ∷ [])) ≡ true → has x (log ++ (r ∷ [])) ≡ false → (q : ℕ) → q < n → covers (v .summary q) x ≡ true
+    known : (x : Record) → has x (l ++ (r ∷ [])) ≡ true → has x log′ ≡ false → (q : ℕ) → q < n → covers (v .summary q) x ≡ true
     known x h i q j =
-        let a = has-append x log (r ∷ []) in
+        let a = ap (has x) (f .last) ∙ has-append x log (r ∷ []) in
         let b = or-left (has x log) (has x (r ∷ [])) (sym a ∙ i) in
         let d = or-right (has x log) (has x (r ∷ [])) (sym a ∙ i) in
         let e = has-append x l (r ∷ []) in
-        let f : has x l ≡ true = by-test (has x l) (λ y. y) (λ y. cc) in
-        let y = covers-le (w .summary q) x (k .known x f b q j) in
+        let u : has x l ≡ true = by-test (has x l) (λ y. y) (λ y. cc) in
+        let y = covers-le (w .summary q) x (k .known x u b q j) in
         le-covers (v .summary q) x (omega (arith, g .summary q (x .origin) j))
 
--- Records leave ------------------------------------------------------------------------------------------------------------------------------
-
--- A log keeps by any test, if every node's summary covers each record that fails it.
-pub kept-dropped : (n : ℕ) (w : World) (f : Record → Bool) (s : List ℕ) (log l : List Record) →
-    ((r : Record) → has r log ≡ true → f r ≡ false → (q : ℕ) → q < n → covers (w .summary q) r ≡ true) → Kept n w s log l → Kept n w s (keep f log) l
-kept-dropped n w f s log l gone k =
+pub kept-dropping : (n : ℕ) (w : World) (s : List ℕ) (log log′ l : List Record) → Dropping n w log log′ → Kept n w s log l → Kept n w s log′ l
+kept-dropping n w s log log′ l f k =
     record {
       wide = k .wide;
       behind = k .behind;
       exact = k .exact;
       once = k .once;
-      less = Sublistᴰ·trans (keep-sub f log) (k .less);
-      known = λ r h i q j.
-          let a = has-keep f r log in
-          by-test (has r log) (λ p. gone r p (by-test (f r) (λ y. cc) (λ y. y)) q j) (λ p. k .known r h p q j);
+      less = Sublistᴰ·trans (f .order) (k .less);
+      known = λ r h i q j. by-test (has r log) (λ p. f .gone r p i q j) (λ p. k .known r h p q j);
     }
+
+-- What follows of a log and of an account ----------------------------------------------------------------------------------------------------------
 
 -- what a log holds was written
 pub log-written : (n : ℕ) (w : World) (s : List ℕ) (log l : List Record) (r : Record) → Kept n w s log l → has r log ≡ true → has r (w .written) ≡ true
@@ -359,7 +333,18 @@ log-written n w s log l r k h =
     let e = k .exact r in
     and-left (has r (w .written)) (covers s r) (sym e ∙ a)
 
--- "Every held record whose timestamp is at most the smallest entry of p's acknowledgement row leaves": each is covered everywhere.
+-- of the partner's account, the own one lacks exactly what the own summary does not cover
+pub lacking-newer : (n : ℕ) (w : World) (s t : List ℕ) (log theirs l m : List Record) → Kept n w s log l → Kept n w t theirs m → lacking l m ≡ newer s m
+unfolding lacking newer
+lacking-newer n w s t log theirs l m mine other =
+    keep-same (λ r. not (has r l)) (λ r. not (covers s r)) m
+    (λ r h.
+    let a = other .exact r in
+    let b = and-left (has r (w .written)) (covers t r) (sym a ∙ h) in
+    let c = mine .exact r in
+    cc)
+
+-- A record at or below every acknowledgement is covered by every node's summary.
 pub acked-covers : (n : ℕ) (w : World) (acks : List ℕ) (r : Record) → Acked n w acks → r .origin < n → r .timestamp ≤ least acks → (q : ℕ) → q < n →
     covers (w .summary q) r ≡ true
 acked-covers n w acks r k o h q j =

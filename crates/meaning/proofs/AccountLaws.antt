@@ -27,7 +27,7 @@ use native.Mathlib.Omega.{arith}
 use lib.ListN.{length, getD, set, length-set}
 use lib.Seq.{getD-set-same, getD-set-other}
 use lib.Dec.{leb, eqb}
-use borrow.Author.Tests.{leb-true, leb-false, le-leb, lt-leb, eqb-true, eqb-false, eq-eqb, ne-eqb}
+use borrow.Author.Tests.{leb-true, leb-false, le-leb, lt-leb, eqb-true, eq-eqb, not-false}
 use Rattle.meaning.specs.declared.Record.{Record}
 use Rattle.meaning.specs.Rows.{keepIf, keep, least, raise, covers, newer, above}
 use Rattle.meaning.specs.Account.{sameRecord, has, lacking}
@@ -179,6 +179,20 @@ pub newer-sublist : (s : List ℕ) {xs ys : List Record} → Sublistᴰ xs ys �
 unfolding newer
 newer-sublist s d = keep-sublist (λ x. not (covers s x)) d
 
+-- What a purge leaves ---------------------------------------------------------------------------------------------------------------------------
+
+pub above-sub : (limit : ℕ) (xs : List Record) → Sublistᴰ (above limit xs) xs
+unfolding above
+above-sub limit xs = keep-sub (λ r. not (leb (r .timestamp) limit)) xs
+
+-- what is gone is at or below the limit
+pub above-gone : (limit : ℕ) (xs : List Record) (r : Record) → has r xs ≡ true → has r (above limit xs) ≡ false → r .timestamp ≤ limit
+unfolding above
+above-gone limit xs r h gone =
+    let a = has-keep (λ y. not (leb (y .timestamp) limit)) r xs in
+    let f : not (leb (r .timestamp) limit) ≡ false = cc in
+    leb-true (r .timestamp) limit (not-false (leb (r .timestamp) limit) f)
+
 -- Rows ----------------------------------------------------------------------------------------------------------------------------------
 
 -- an entry of a row
@@ -232,19 +246,18 @@ pub covers-same : (s t : List ℕ) (r : Record) → entry s (r .origin) ≡ entr
 unfolding covers
 covers-same s t r e = cc
 
-pub covers-raise : (s t : List ℕ) (r : Record) → length s ≡ length t → covers (raise s t) r ≡ covers s r || covers t r
-covers-raise s t r h =
-    let e = raise-entry s t (r .origin) h in
+-- a row whose entry for a record's origin is the greater of two covers what either of the two covers
+pub covers-max : (s t u : List ℕ) (r : Record) → entry u (r .origin) ≡ max (entry s (r .origin)) (entry t (r .origin)) → covers u r ≡ covers s r || covers t r
+covers-max s t u r e =
     by-test (covers s r)
     (λ p.
-    let k : covers (raise s t) r ≡ true = le-covers (raise s t) r (omega (arith, covers-le s r p)) in
+    let k : covers u r ≡ true = le-covers u r (omega (arith, covers-le s r p)) in
     cc)
     (λ p.
     by-test (covers t r)
     (λ q.
-    let k : covers (raise s t) r ≡ true = le-covers (raise s t) r (omega (arith, covers-le t r q)) in
+    let k : covers u r ≡ true = le-covers u r (omega (arith, covers-le t r q)) in
     cc)
     (λ q.
-    by-test (covers (raise s t) r)
-    (λ k. absurd (omega (arith, covers-le (raise s t) r k, not-covers-lt s r p, not-covers-lt t r q)))
-    (λ k. cc)))
+    let k : covers u r ≡ false = lt-covers u r (omega (arith, not-covers-lt s r p, not-covers-lt t r q)) in
+    cc))

@@ -17,24 +17,33 @@ use Rattle.meaning.specs.Table.{Node}
 use Rattle.meaning.specs.Node.{own, wrote, opened, finished, ended, purged}
 use Rattle.meaning.specs.Steps.{finishesA, finishesB}
 use Rattle.meaning.specs.Account.{sameRecord, has, lacking, Account, gains, gainsIf, noted}
-use Rattle.meaning.proofs.AccountLaws.{by-test, not-both, same-eq, same-refl, has-append, has-one, entry, least-le, raise-entry}
+use Rattle.meaning.proofs.AccountLaws.{by-test, not-both, same-eq, has-append, has-one, entry, raise-entry}
 use Rattle.meaning.proofs.AccountInvariant.{
   World,
   Stamped,
   Grows,
   Kept,
   Acked,
+  Writing,
   stamped-grows,
   kept-grows,
   acked-grows,
   kept-reading,
-  acked-entry,
-  kept-finished,
-  acked-raise,
-  kept-wrote,
-  kept-dropped,
-  log-written,
-  acked-covers,
+  acked-acking,
+  acked-raising,
+  kept-taking,
+  kept-writing,
+  kept-dropping,
+}
+use Rattle.meaning.proofs.AccountNodes.{
+  set-up,
+  opened-reading,
+  opened-acking,
+  finished-summary,
+  finished-acks,
+  finished-taking,
+  wrote-writing,
+  purged-dropping,
 }
 
 -- A node and its account have the invariant.
@@ -71,15 +80,6 @@ pub gains-other : (p : ℕ) (new : List Record) (of : ℕ → List Record) (q : 
 unfolding gains
 gains-other p new of q h = let e = ne-eqb q p h in cc
 
--- an entry that is set to no less never goes down
-pub set-up : (s : List ℕ) (p c o : ℕ) → p < length s → entry s p ≤ c → entry s o ≤ entry (set s p c) o
-set-up s p c o below up =
-    by-test (eqb o p)
-    (λ e.
-    let q = eqb-true o p e in
-    subst (λ (i : ℕ). entry s i ≤ entry (set s p c) i) (sym q) (omega (arith, getD-set-same s p c 0 below)))
-    (λ e. omega (arith, getD-set-other s p o c 0 (eqb-false o p e)))
-
 -- Write ----------------------------------------------------------------------------------------------------------------------------------
 
 module _ (n : ℕ) (nodes nodes′ : ℕ → Node) (x : Account) (p c b v : ℕ) (below : p < n) (later : own p (nodes p) < c)
@@ -94,19 +94,27 @@ module _ (n : ℕ) (nodes nodes′ : ℕ → Node) (x : Account) (p c b v : ℕ)
   unfolding next new noted
   gained r = has-append r (x .written) (new ∷ []) ∙ ap (λ (t : Bool). has r (x .written) || t) (has-one r new)
 
-  summary-here : nodes′ p .summary ≡ set (nodes p .summary) p c
-  unfolding wrote
-  summary-here = ap (λ (y : Node). y .summary) here
+  long : length (nodes p .summary) ≡ n
+  long = k .holds p below .kept .wide
+
+  wrote-node : Writing n new (nodes p .summary) (wrote p c b v (nodes p) .summary) (nodes p .log) (wrote p c b v (nodes p) .log)
+  unfolding new
+  wrote-node = wrote-writing n p c b v (nodes p) below long
 
   own-below : entry (nodes p .summary) p < c
   unfolding own
   own-below = later
 
-  long : length (nodes p .summary) ≡ n
-  long = k .holds p below .kept .wide
-
   top : entry (nodes′ p .summary) p ≡ c
-  top = rw summary-here (getD-set-same (nodes p .summary) p c 0 (omega (arith, long)))
+  unfolding new
+  top = rw here (wrote-node .own)
+
+  up : (o : ℕ) → entry (nodes p .summary) o ≤ entry (nodes′ p .summary) o
+  unfolding new
+  up o =
+      by-test (eqb o p)
+      (λ e. rw (eqb-true o p e) (omega (arith, own-below, top)))
+      (λ e. rw here (omega (arith, wrote-node .others o (eqb-false o p e))))
 
   is-new : (r : Record) → has r (x .written) ≡ false → has r (next .written) ≡ true → r ≡ new
   is-new r f t = let g = gained r in same-eq r new (cc)
@@ -118,7 +126,7 @@ module _ (n : ℕ) (nodes nodes′ : ℕ → Node) (x : Account) (p c b v : ℕ)
         written = λ r h. let g = gained r in cc;
         summary = λ q o h.
             each (λ (i : ℕ). entry (nodes i .summary) o ≤ entry (nodes′ i .summary) o) n p
-            (rw summary-here (set-up (nodes p .summary) p c o (omega (arith, long)) (omega (arith, own-below))))
+            (up o)
             (λ i j ne. rw (there i j ne) (omega arith)) q h;
         origin = λ r f t. rw (is-new r f t) below;
         later = λ r f t. rw (is-new r f t) own-below;
@@ -136,8 +144,8 @@ module _ (n : ℕ) (nodes nodes′ : ℕ → Node) (x : Account) (p c b v : ℕ)
             (gains-here p (new ∷ []) (x .of))
             (record {
               kept =
-                  kept-wrote n (world nodes x) (world nodes′ next) new (nodes p .log) (x .of p) write-grows (k .stamped) below own-below (omega (arith, top)) gained
-                  (k .holds p below .kept);
+                  kept-writing n (world nodes x) (world nodes′ next) new (wrote p c b v (nodes p) .summary) (nodes p .log) (wrote p c b v (nodes p) .log) (x .of p)
+                  write-grows (k .stamped) own-below (omega (arith, top)) gained wrote-node (k .holds p below .kept);
               acked = acked-grows n (world nodes x) (world nodes′ next) write-grows (nodes p .acks) (k .holds p below .acked);
             }))
             (λ q h ne.
@@ -170,7 +178,7 @@ module _ (n : ℕ) (nodes nodes′ : ℕ → Node) (x : Account) (p : ℕ) (belo
   purge-stamped = stamped-grows n (world nodes x) (world nodes′ x) purge-grows (k .stamped)
 
   pub whole-purge : Whole n nodes′ (noted (Purge p) x)
-  unfolding noted purged above
+  unfolding noted purged
   whole-purge =
       record {
         stamped = purge-stamped;
@@ -179,12 +187,8 @@ module _ (n : ℕ) (nodes nodes′ : ℕ → Node) (x : Account) (p : ℕ) (belo
             (holds-at n (world nodes′ x) (nodes′ p) (purged (nodes p)) (x .of p) (x .of p) here refl
             (record {
               kept =
-                  kept-dropped n (world nodes′ x) (λ r. not (leb (r .timestamp) (least (nodes p .acks)))) (nodes p .summary) (nodes p .log) (x .of p)
-                  (λ r h f.
-                  acked-covers n (world nodes′ x) (nodes p .acks) r (purge-holds .acked)
-                  (purge-stamped .origin r (log-written n (world nodes′ x) (nodes p .summary) (nodes p .log) (x .of p) r (purge-holds .kept) h))
-                  (leb-true (r .timestamp) (least (nodes p .acks)) (not-false (leb (r .timestamp) (least (nodes p .acks))) f)))
-                  (purge-holds .kept);
+                  kept-dropping n (world nodes′ x) (nodes p .summary) (nodes p .log) (purged (nodes p) .log) (x .of p)
+                  (purged-dropping n (world nodes′ x) (nodes p) (x .of p) purge-stamped (purge-holds .kept) (purge-holds .acked)) (purge-holds .kept);
               acked = purge-holds .acked;
             }))
             (λ q h ne.
@@ -226,19 +230,22 @@ taken-other false false a b of q na nb = refl
 -- a side that ends has the invariant if both starting nodes have it
 pub holds-ended : (n : ℕ) (w : World) (f : Bool) (mine theirs : Node) (l m : List Record) → Holds n w mine l → Holds n w theirs m →
     Holds n w (ended f mine theirs) (taken f l m)
-unfolding finished
 holds-ended n w true mine theirs l m h k =
     record {
-      kept = kept-finished n w (mine .summary) (theirs .summary) (mine .log) (theirs .log) l m (h .kept) (k .kept);
-      acked = acked-raise n w (mine .acks) (theirs .acks) (h .acked) (k .acked);
+      kept =
+          kept-taking n w (mine .summary) (theirs .summary) (finished mine theirs .summary) (mine .log) (theirs .log) (finished mine theirs .log) l m
+          (finished-summary n mine theirs (h .kept .wide) (k .kept .wide)) (finished-taking n w mine theirs l m (h .kept) (k .kept)) (h .kept) (k .kept);
+      acked =
+          acked-raising n w (mine .acks) (theirs .acks) (finished mine theirs .acks)
+          (finished-acks n mine theirs (h .acked .wide) (k .acked .wide)) (h .acked) (k .acked);
     }
 holds-ended n w false mine theirs l m h k = h
 
 -- ending never lowers a summary entry
 pub ended-up : (f : Bool) (mine theirs : Node) (o : ℕ) → length (mine .summary) ≡ length (theirs .summary) →
     entry (mine .summary) o ≤ entry (ended f mine theirs .summary) o
-unfolding finished
-ended-up true mine theirs o e = omega (arith, raise-entry (mine .summary) (theirs .summary) o e)
+ended-up true mine theirs o e =
+    omega (arith, finished-summary (length (theirs .summary)) mine theirs e refl .greater o)
 ended-up false mine theirs o e = omega arith
 
 pub opened-up : (p c : ℕ) (x : Node) (o : ℕ) → p < length (x .summary) → own p x ≤ c → entry (x .summary) o ≤ entry (opened p c x .summary) o
@@ -253,24 +260,18 @@ opened-long p c x = length-set (x .summary) p c
 pub holds-opened : (n : ℕ) (nodes nodes′ : ℕ → Node) (x y : Account) (p c : ℕ) → Grows n (world nodes x) (world nodes′ y) → y .written ≡ x .written →
     p < n → own p (nodes p) ≤ c → ((o : ℕ) → entry (opened p c (nodes p) .summary) o ≤ entry (nodes′ p .summary) o) → Whole n nodes x →
     Holds n (world nodes′ y) (opened p c (nodes p)) (x .of p)
-unfolding opened own
+unfolding opened
 holds-opened n nodes nodes′ x y p c g same below up over k =
     let h = holds-grows n (world nodes x) (world nodes′ y) g (nodes p) (x .of p) (k .holds p below) in
     let long = k .holds p below .kept .wide in
-    let top = over p in
-    let at = getD-set-same (nodes p .summary) p c 0 (omega arith) in
     record {
       kept =
-          kept-reading n (world nodes′ y) p c (nodes p .summary) (nodes p .log) (x .of p) below up (omega arith)
-          (λ r written o.
-          let z : has r (x .written) ≡ true = subst (λ (l : List Record). has r l ≡ true) same written in
-          rw o at (k .stamped .reached r z))
-          (h .kept);
+          kept-reading n (world nodes′ y) p (nodes p .summary) (opened p c (nodes p) .summary) (nodes p .log) (x .of p)
+          (opened-reading n (world nodes′ y) p c (nodes p) below long up (over p))
+          (λ r written o. rw o at (k .stamped .reached r (subst (λ (l : List Record). has r l ≡ true) same written))) (h .kept);
       acked =
-          acked-entry n (world nodes′ y) p (least (set (nodes p .summary) p c)) (nodes p .acks) below
-          (λ o j.
-          omega (arith, over o, least-le (set (nodes p .summary) p c) o (omega (arith, length-set (nodes p .summary) p c))))
-          (h .acked);
+          acked-acking n (world nodes′ y) p (nodes p .acks) (opened p c (nodes p) .acks)
+          (opened-acking n (world nodes′ y) p c (nodes p) below long (h .acked .wide) over) (h .acked);
     }
 
 module _ (n : ℕ) (nodes nodes′ : ℕ → Node) (x : Account) (a b ca cb outcome : ℕ) (belowA : a < n) (belowB : b < n) (apart : a ≡ b → ⊥)

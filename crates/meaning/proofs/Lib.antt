@@ -6,6 +6,7 @@ pub mod StepLaws
 pub mod SoundLaws
 pub mod AccountLaws
 pub mod AccountInvariant
+pub mod AccountNodes
 pub mod AccountSteps
 pub mod AccountTable
 pub mod Demand3
