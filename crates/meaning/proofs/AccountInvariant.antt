@@ -2,46 +2,21 @@
 -- It takes the node apart from the world, so that the starting values of a session have it in the world after the session, and a session
 -- needs no world in between. A new action shows `Grows` of its two worlds and, of each node that it changes, the facts of one of the records
 -- `Reading`, `Acking`, `Raising`, `Taking`, `Writing`, `Dropping`; every other node has `kept-grows` and `acked-grows`. No proof here then moves.
-use mathlib.Core.Path.{_≡_, refl, sym, ap, _∙_, subst}
-use mathlib.Core.Bool.{Bool, true, false, not, _&&_, _||_}
+use mathlib.Core.Path.{_≡_, sym, ap, _∙_, subst}
+use mathlib.Core.Bool.{true, false, not, _&&_, _||_}
 use mathlib.Core.Logic.{_≢_}
-use mathlib.Core.List.{List, [], _∷_, _++_, List·Nodup, Sublistᴰ, Sublistᴰ·refl, Sublistᴰ·trans, Sublistᴰ·append, Sublistᴰ·nil-sublist, Pairwise·nil, pairwise-singleton}
-use Prim.Native.Nat.{ℕ, zero, suc, _≤_, _<_, max}
+use mathlib.Core.List.{List, [], _∷_, _++_, List·Nodup, Sublistᴰ, Sublistᴰ·refl, Sublistᴰ·trans, Sublistᴰ·append, pairwise-singleton}
+use Prim.Native.Nat.{ℕ, _≤_, _<_, max}
 use native.Mathlib.Omega.{arith}
-use lib.ListN.{length, getD, set, length-set}
-use lib.Seq.{getD-set-same, getD-set-other}
-use lib.Dec.{leb, eqb}
-use borrow.Author.Tests.{leb-true, eqb-true, eqb-false, not-true, not-false}
+use lib.ListN.{length}
+use lib.Dec.{eqb}
+use borrow.Author.Tests.{eqb-true, eqb-false}
 use Rattle.meaning.specs.declared.Record.{Record}
-use Rattle.meaning.specs.Rows.{keep, least, raise, covers, newer, above}
+use Rattle.meaning.specs.Rows.{least, covers, newer}
 use Rattle.meaning.specs.Account.{sameRecord, has, lacking}
-use Rattle.meaning.proofs.RowLaws.{and-left, and-right, and-both}
+use Rattle.meaning.proofs.RowLaws.{and-left}
 use Rattle.meaning.proofs.StepLaws.{or-left, or-right}
-use Rattle.meaning.proofs.AccountLaws.{
-  by-test,
-  not-both,
-  same-eq,
-  same-refl,
-  has-append,
-  has-one,
-  has-keep,
-  sublist-has,
-  has-lacking,
-  once-lacking,
-  keep-same,
-  keep-sub,
-  keep-sublist,
-  once-append,
-  once-keep,
-  entry,
-  least-le,
-  covers-le,
-  le-covers,
-  lt-covers,
-  not-covers-lt,
-  covers-same,
-  covers-max,
-}
+use Rattle.meaning.proofs.AccountLaws.{by-test, not-both, same-eq, has-append, has-one, sublist-has, has-lacking, once-lacking, keep-same, once-append, entry, least-le, covers-le, le-covers, lt-covers, covers-same, covers-max}
 
 -- What a node is measured against: all that was written, and every node's summary.
 pub record World : Type 0 where

@@ -2,8 +2,8 @@
 use mathlib.Core.Path.{_≡_, refl, sym, ap, _∙_}
 use mathlib.Core.Bool.{Bool, true, false, not, _&&_, _||_, cond}
 use mathlib.Core.Logic.{_⊎_, inl, inr}
-use mathlib.Core.List.{List, [], _∷_}
-use Prim.Native.Nat.{ℕ, zero, suc, _%_, _≤_, _<_}
+use mathlib.Core.List.{List}
+use Prim.Native.Nat.{ℕ, zero, suc, _%_, _<_}
 use native.Mathlib.Omega.{arith}
 use lib.ListN.{length, getD}
 use lib.Dec.{leb, ltb, eqb}
@@ -16,7 +16,7 @@ use Rattle.meaning.specs.Rows.{given}
 use Rattle.meaning.specs.Table.{nodesMost, countRight, fresh}
 use Rattle.meaning.specs.Frames.{kinds, bytesOf, allDigits, total, digitsOf, lineKind, lineFields, lineRefusal, meant, lineIs, readLine}
 use Rattle.meaning.specs.Journals.{unended, lineAt, placeAfter, inTurn, nextAt, journal, startedFrom, afterAll, replayAfter}
-use Rattle.meaning.specs.Account.{Run, run}
+use Rattle.meaning.specs.Account.{run}
 use Rattle.meaning.proofs.RowLaws.{and-left, and-right}
 use Rattle.meaning.proofs.AccountCorollaries.{run-table}
 use Rattle.meaning.proofs.Demand3.{NothingLost, demand3}

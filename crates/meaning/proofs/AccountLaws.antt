@@ -1,31 +1,12 @@
 -- Laws of what the account and the rows of a node are made of: tests, membership, keeping, the smallest entry, the greater of two rows.
 -- They speak of lists alone; no table and no step stands here.
-use mathlib.Core.Path.{_≡_, refl, sym, ap, _∙_, subst}
+use mathlib.Core.Path.{_≡_, refl, sym, ap, subst}
 use mathlib.Core.Bool.{Bool, true, false, not, _&&_, _||_, Bool-set}
-use mathlib.Core.Logic.{_≢_, ∥∥₁-elim}
-use mathlib.Core.List.{
-  List,
-  [],
-  _∷_,
-  _++_,
-  List·Mem,
-  List·Memᴰ,
-  List·Memᴰ·head,
-  List·Memᴰ·tail,
-  List·Nodup,
-  Sublistᴰ,
-  Sublistᴰ·slnil,
-  Sublistᴰ·cons,
-  Sublistᴰ·cons-cons,
-  Sublistᴰ·refl,
-  nodup-append,
-  Nodup·sublist,
-  Sublist·subset,
-}
-use Prim.Native.Nat.{ℕ, zero, suc, _≤_, _<_, min, max}
+use mathlib.Core.Logic.{∥∥₁-elim}
+use mathlib.Core.List.{List, [], _∷_, _++_, List·Mem, List·Memᴰ, List·Memᴰ·head, List·Memᴰ·tail, List·Nodup, Sublistᴰ, Sublistᴰ·slnil, Sublistᴰ·cons, Sublistᴰ·cons-cons, nodup-append, Nodup·sublist, Sublist·subset}
+use Prim.Native.Nat.{ℕ, zero, suc, _≤_, _<_, max}
 use native.Mathlib.Omega.{arith}
-use lib.ListN.{length, getD, set, length-set}
-use lib.Seq.{getD-set-same, getD-set-other}
+use lib.ListN.{length, getD}
 use lib.Dec.{leb, eqb}
 use borrow.Author.Tests.{leb-true, leb-false, le-leb, lt-leb, eqb-true, eq-eqb, not-false}
 use Rattle.meaning.specs.declared.Record.{Record}

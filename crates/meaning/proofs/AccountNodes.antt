@@ -1,37 +1,21 @@
 -- What document 01's actions do to one node is what the account allows: `opened`, `finished`, `wrote` and `purged` have the facts that the invariant
 -- of demand 3 names. A wrong action is refused here.
-use mathlib.Core.Path.{_≡_, refl, sym, ap, _∙_}
-use mathlib.Core.Bool.{Bool, true, false, not, _&&_, _||_}
-use mathlib.Core.List.{List, [], _∷_, _++_, Sublistᴰ, Sublistᴰ·append}
-use Prim.Native.Nat.{ℕ, _≤_, _<_, max}
+use mathlib.Core.Path.{_≡_, refl, sym, _∙_}
+use mathlib.Core.List.{List, Sublistᴰ·append}
+use Prim.Native.Nat.{ℕ, _≤_, _<_}
 use native.Mathlib.Omega.{arith}
-use lib.ListN.{length, getD, set, length-set}
+use lib.ListN.{length, set, length-set}
 use lib.Seq.{getD-set-same, getD-set-other}
 use lib.Dec.{eqb}
 use borrow.Author.Tests.{eqb-true, eqb-false}
 use Rattle.meaning.specs.declared.Record.{Record}
-use Rattle.meaning.specs.Rows.{least, raise, covers, newer, above}
+use Rattle.meaning.specs.Rows.{least, newer}
 use Rattle.meaning.specs.Table.{Node}
 use Rattle.meaning.specs.Node.{own, wrote, opened, finished, purged}
-use Rattle.meaning.specs.Account.{has, lacking}
-use Rattle.meaning.proofs.RowLaws.{and-left}
+use Rattle.meaning.specs.Account.{has}
 use Rattle.meaning.proofs.StepLaws.{length-raise}
 use Rattle.meaning.proofs.AccountLaws.{by-test, has-append, has-newer, newer-sublist, above-sub, above-gone, entry, least-le, raise-entry}
-use Rattle.meaning.proofs.AccountInvariant.{
-  World,
-  Stamped,
-  Kept,
-  Acked,
-  Reading,
-  Acking,
-  Raising,
-  Taking,
-  Writing,
-  Dropping,
-  lacking-newer,
-  log-written,
-  acked-covers,
-}
+use Rattle.meaning.proofs.AccountInvariant.{World, Stamped, Kept, Acked, Reading, Acking, Raising, Taking, Writing, Dropping, lacking-newer, log-written, acked-covers}
 
 -- an entry that is set to no less never goes down
 pub set-up : (s : List ℕ) (p c o : ℕ) → p < length s → entry s p ≤ c → entry s o ≤ entry (set s p c) o

@@ -1,50 +1,22 @@
 -- The invariant of demand 3 for a whole cluster, and that each action keeps it: write, session, purge, as they change the nodes.
 -- The nodes are any function from numbers to nodes, so a table of another form only says what its nodes are.
 use mathlib.Core.Path.{_≡_, refl, sym, ap, _∙_, subst}
-use mathlib.Core.Bool.{Bool, true, false, not, _&&_, _||_, cond}
+use mathlib.Core.Bool.{Bool, true, false, _||_}
 use mathlib.Core.List.{List, [], _∷_, _++_}
-use Prim.Native.Nat.{ℕ, zero, suc, _≤_, _<_, max}
+use Prim.Native.Nat.{ℕ, _≤_, _<_}
 use native.Mathlib.Omega.{arith}
-use lib.ListN.{length, getD, set, length-set}
-use lib.Seq.{getD-set-same, getD-set-other}
-use lib.Dec.{leb, eqb}
-use borrow.Author.Tests.{leb-true, eqb-true, eqb-false, eq-eqb, ne-eqb, not-false}
+use lib.ListN.{length, length-set}
+use lib.Dec.{eqb}
+use borrow.Author.Tests.{eqb-true, eqb-false, eq-eqb, ne-eqb}
 use Rattle.meaning.specs.declared.Record.{Record}
-use Rattle.meaning.specs.declared.Action.{Action}
 use Rattle.meaning.specs.declared.Action.the-variants.{Write, Session, Purge}
-use Rattle.meaning.specs.Rows.{keep, least, raise, covers, newer, above}
 use Rattle.meaning.specs.Table.{Node}
 use Rattle.meaning.specs.Node.{own, wrote, opened, finished, ended, purged}
 use Rattle.meaning.specs.Steps.{finishesA, finishesB}
 use Rattle.meaning.specs.Account.{sameRecord, has, lacking, Account, gains, gainsIf, noted}
-use Rattle.meaning.proofs.AccountLaws.{by-test, not-both, same-eq, has-append, has-one, entry, raise-entry}
-use Rattle.meaning.proofs.AccountInvariant.{
-  World,
-  Stamped,
-  Grows,
-  Kept,
-  Acked,
-  Writing,
-  stamped-grows,
-  kept-grows,
-  acked-grows,
-  kept-reading,
-  acked-acking,
-  acked-raising,
-  kept-taking,
-  kept-writing,
-  kept-dropping,
-}
-use Rattle.meaning.proofs.AccountNodes.{
-  set-up,
-  opened-reading,
-  opened-acking,
-  finished-summary,
-  finished-acks,
-  finished-taking,
-  wrote-writing,
-  purged-dropping,
-}
+use Rattle.meaning.proofs.AccountLaws.{by-test, not-both, same-eq, has-append, has-one, entry}
+use Rattle.meaning.proofs.AccountInvariant.{World, Stamped, Grows, Kept, Acked, Writing, stamped-grows, kept-grows, acked-grows, kept-reading, acked-acking, acked-raising, kept-taking, kept-writing, kept-dropping}
+use Rattle.meaning.proofs.AccountNodes.{set-up, opened-reading, opened-acking, finished-summary, finished-acks, finished-taking, wrote-writing, purged-dropping}
 
 -- A node and its account have the invariant.
 pub record Holds (n : ℕ) (w : World) (x : Node) (account : List Record) : Type 0 where

@@ -1,42 +1,23 @@
 -- The invariant of demand 3 on the table itself: a fresh table has it, and every step keeps it, accepted or refused.
-use mathlib.Core.Path.{_≡_, refl, sym, ap, _∙_, subst}
-use mathlib.Core.Bool.{Bool, true, false}
-use mathlib.Core.List.{List, [], _∷_, _++_, Sublistᴰ·slnil, Pairwise·nil}
+use mathlib.Core.Path.{_≡_, refl, sym, _∙_, subst}
+use mathlib.Core.Bool.{false}
+use mathlib.Core.List.{List, [], _∷_, Sublistᴰ·slnil, Pairwise·nil}
 use Prim.Native.Nat.{ℕ, zero, suc, _+_, _*_, _≤_, _<_}
 use native.Mathlib.Omega.{arith}
-use lib.ListN.{length, getD, getD-replicate}
+use lib.ListN.{getD, getD-replicate}
 use Rattle.meaning.specs.declared.Record.{Record}
 use Rattle.meaning.specs.declared.Action.{Action}
 use Rattle.meaning.specs.declared.Action.the-variants.{Write, Session, Purge}
 use Rattle.meaning.specs.declared.Step.{Step}
-use Rattle.meaning.specs.Table.{Node, nodesMost, summaryAt, acksAt, part, count, node, putNode, fresh}
+use Rattle.meaning.specs.Table.{nodesMost, summaryAt, acksAt, count, node, fresh}
 use Rattle.meaning.specs.Node.{wrote, purged}
-use Rattle.meaning.specs.Steps.{refusal, acted, after}
+use Rattle.meaning.specs.Steps.{refusal, acted}
 use Rattle.meaning.specs.Account.{has, Account, nothing, noted, Run, noteIf, stepped, ran, run}
 use Rattle.meaning.proofs.PlaceLaws.{getD-part}
-use Rattle.meaning.proofs.TableLaws.{Sound, Shaped, node-shaped}
-use Rattle.meaning.proofs.StepLaws.{
-  Accepted,
-  accepted,
-  after-accepted,
-  after-refused,
-  wrote-shaped,
-  purged-shaped,
-  session-a,
-  session-b,
-  session-other,
-  one-same,
-  one-other,
-  write-facts,
-  purge-facts,
-  session-facts,
-  acted-count,
-  fresh-count,
-  fresh-log,
-  fresh-sound,
-}
+use Rattle.meaning.proofs.TableLaws.{node-shaped}
+use Rattle.meaning.proofs.StepLaws.{Accepted, accepted, after-accepted, after-refused, wrote-shaped, purged-shaped, session-a, session-b, session-other, one-same, one-other, write-facts, purge-facts, session-facts, acted-count, fresh-count, fresh-log, fresh-sound}
 use Rattle.meaning.proofs.AccountLaws.{not-both, entry}
-use Rattle.meaning.proofs.AccountSteps.{Whole, world, whole-write, whole-session, whole-purge}
+use Rattle.meaning.proofs.AccountSteps.{Whole, whole-write, whole-session, whole-purge}
 
 -- The table of a run has n nodes, and they have the invariant with the account beside them.
 pub record Sure (n : ℕ) (x : Run) : Type 0 where

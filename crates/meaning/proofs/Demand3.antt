@@ -10,10 +10,10 @@
 -- and no acknowledgement. `node t p` is node p as it stands in the table t. `has r l` says whether the list l has the record r, word for word.
 -- Any list of steps: also one whose steps are wrong, since a refused step changes neither the table nor the account. All three hold after every
 -- step, since the first steps of a list are a list themselves.
-use mathlib.Core.Path.{_≡_, refl, sym, _∙_}
-use mathlib.Core.Bool.{Bool, true, false, _&&_}
+use mathlib.Core.Path.{_≡_, sym, _∙_}
+use mathlib.Core.Bool.{true, false, _&&_}
 use mathlib.Core.Logic.{_↔_}
-use mathlib.Core.List.{List, [], _∷_, List·Memᴰ, List·Nodup, Sublistᴰ}
+use mathlib.Core.List.{List, List·Memᴰ, List·Nodup, Sublistᴰ}
 use Prim.Native.Nat.{ℕ, _≤_, _<_}
 use lib.ListN.{getD}
 use Rattle.meaning.specs.declared.Record.{Record}

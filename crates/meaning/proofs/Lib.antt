@@ -11,4 +11,5 @@ pub mod AccountSteps
 pub mod AccountTable
 pub mod Demand3
 pub mod AccountCorollaries
+pub mod AccountRises
 pub mod AccountJournals
