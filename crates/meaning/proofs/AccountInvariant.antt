@@ -15,7 +15,6 @@ use Rattle.meaning.specs.declared.Record.{Record}
 use Rattle.meaning.specs.Rows.{least, covers, newer}
 use Rattle.meaning.specs.Account.{sameRecord, has, lacking}
 use Rattle.meaning.proofs.RowLaws.{and-left}
-use Rattle.meaning.proofs.StepLaws.{or-left, or-right}
 use Rattle.meaning.proofs.AccountLaws.{by-test, not-both, same-eq, has-append, has-one, sublist-has, has-lacking, once-lacking, keep-same, once-append, entry, least-le, covers-le, le-covers, lt-covers, covers-same, covers-max}
 
 -- What a node is measured against: all that was written, and every node's summary.
@@ -281,8 +280,8 @@ kept-writing n w v r s′ log log′ l g stamped later top gained f k =
     known : (x : Record) → has x (l ++ (r ∷ [])) ≡ true → has x log′ ≡ false → (q : ℕ) → q < n → covers (v .summary q) x ≡ true
     known x h i q j =
         let a = ap (has x) (f .last) ∙ has-append x log (r ∷ []) in
-        let b = or-left (has x log) (has x (r ∷ [])) (sym a ∙ i) in
-        let d = or-right (has x log) (has x (r ∷ [])) (sym a ∙ i) in
+        let b : has x log ≡ false = by-test (has x log) (λ z. cc) (λ z. z) in
+        let d : has x (r ∷ []) ≡ false = cc in
         let e = has-append x l (r ∷ []) in
         let u : has x l ≡ true = by-test (has x l) (λ y. y) (λ y. cc) in
         let y = covers-le (w .summary q) x (k .known x u b q j) in

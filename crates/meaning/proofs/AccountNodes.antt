@@ -13,7 +13,7 @@ use Rattle.meaning.specs.Rows.{least, newer}
 use Rattle.meaning.specs.Table.{Node}
 use Rattle.meaning.specs.Node.{own, wrote, opened, finished, purged}
 use Rattle.meaning.specs.Account.{has}
-use Rattle.meaning.proofs.StepLaws.{length-raise}
+use Rattle.meaning.proofs.RowLaws.{length-raise}
 use Rattle.meaning.proofs.AccountLaws.{by-test, has-append, has-newer, newer-sublist, above-sub, above-gone, entry, least-le, raise-entry}
 use Rattle.meaning.proofs.AccountInvariant.{World, Stamped, Kept, Acked, Reading, Acking, Raising, Taking, Writing, Dropping, lacking-newer, log-written, acked-covers}
 
