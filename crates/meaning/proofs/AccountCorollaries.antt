@@ -21,9 +21,9 @@ use Rattle.meaning.specs.Account.{has, lacking, Account, nothing, gains,
 use Rattle.meaning.proofs.RowLaws.{all, and-left, and-right, and-both}
 use Rattle.meaning.proofs.AccountLaws.{by-test, le-covers}
 use Rattle.meaning.proofs.AccountInvariant.{log-written}
+use Rattle.meaning.proofs.AccountNodes.{purged-dropping}
 use Rattle.meaning.proofs.TableLaws.{Sound}
 use Rattle.meaning.proofs.StepLaws.{verdictOf, after-sound, fresh-sound}
-use Rattle.meaning.proofs.AccountNodes.{purged-dropping}
 use Rattle.meaning.proofs.AccountTable.{Sure, sure-run}
 use Rattle.meaning.proofs.Demand3.{demand3}
 

@@ -318,8 +318,6 @@ lacking-newer n w s t log theirs l m mine other =
     let c = mine .exact r in
     cc)
 
--- A record at or below every acknowledgement is covered by every node's summary.
-pub acked-covers : (n : ℕ) (w : World) (acks : List ℕ) (r : Record) → Acked n w acks → r .origin < n → r .timestamp ≤ least acks → (q : ℕ) → q < n →
-    covers (w .summary q) r ≡ true
-acked-covers n w acks r k o h q j =
-    le-covers (w .summary q) r (omega (arith, least-le acks q (omega (arith, k .wide)), k .reached q (r .origin) j o))
+-- What is at most the smallest acknowledgement is at most every entry of every summary.
+pub acked-least : (n : ℕ) (w : World) (acks : List ℕ) → Acked n w acks → (q o : ℕ) → q < n → o < n → least acks ≤ entry (w .summary q) o
+acked-least n w acks k q o h j = omega (arith, least-le acks q (omega (arith, k .wide)), k .reached q o h j)

@@ -14,8 +14,8 @@ use Rattle.meaning.specs.Table.{Node}
 use Rattle.meaning.specs.Node.{own, wrote, opened, finished, purged}
 use Rattle.meaning.specs.Account.{has}
 use Rattle.meaning.proofs.RowLaws.{length-raise}
-use Rattle.meaning.proofs.AccountLaws.{by-test, has-append, has-newer, newer-sublist, above-sub, above-gone, entry, least-le, raise-entry}
-use Rattle.meaning.proofs.AccountInvariant.{World, Stamped, Kept, Acked, Reading, Acking, Raising, Taking, Writing, Dropping, lacking-newer, log-written, acked-covers}
+use Rattle.meaning.proofs.AccountLaws.{by-test, has-append, has-newer, newer-sublist, above-sub, above-gone, entry, least-le, raise-entry, le-covers}
+use Rattle.meaning.proofs.AccountInvariant.{World, Stamped, Kept, Acked, Reading, Acking, Raising, Taking, Writing, Dropping, lacking-newer, log-written, acked-least}
 
 -- an entry that is set to no less never goes down
 pub set-up : (s : List ℕ) (p c o : ℕ) → p < length s → entry s p ≤ c → entry s o ≤ entry (set s p c) o
@@ -44,9 +44,9 @@ module _ (n : ℕ) (w : World) (p c : ℕ) (x : Node) (below : p < n) (long : le
       let same = getD-set-same (x .acks) p (least s) 0 (omega arith) in
       let len = length-set (x .summary) p c in
       record {
-        wide = length-set (x .acks) p (least s) ∙ wide;
-        others = λ q ne. getD-set-other (x .acks) p q (least s) 0 ne;
         under = λ o j. omega (arith, same, least-le s o (omega arith), over o);
+        others = λ q ne. rw getD-set-other;
+        wide = simp length-set wide;
       }
 
 -- Finishing: both rows take the greater entries, and the log takes what the partner held and the own account lacked.
@@ -70,18 +70,18 @@ pub finished-taking : (n : ℕ) (w : World) (mine theirs : Node) (l m : List Rec
 unfolding finished
 finished-taking n w mine theirs l m h k =
     record {
-      order =
-          rw (lacking-newer n w (mine .summary) (theirs .summary) (mine .log) (theirs .log) l m h k)
-          (Sublistᴰ·append (h .less) (newer-sublist (mine .summary) (k .less)));
-      keeps = λ r a.
-          let b = has-append r (mine .log) (newer (mine .summary) (theirs .log)) in
-          cc;
       takes = λ r a f.
           let b = has-append r (mine .log) (newer (mine .summary) (theirs .log)) in
           let c = has-newer r (mine .summary) (theirs .log) in
           let d = log-written n w (theirs .summary) (theirs .log) m r k a in
           let e = h .exact r in
           by-test (has r (mine .log)) (λ z. cc) (λ z. cc);
+      keeps = λ r a.
+          let b = has-append r (mine .log) (newer (mine .summary) (theirs .log)) in
+          cc;
+      order =
+          rw (lacking-newer n w (mine .summary) (theirs .summary) (mine .log) (theirs .log) l m h k)
+          (Sublistᴰ·append (h .less) (newer-sublist (mine .summary) (k .less)));
     }
 
 -- Writing
@@ -102,8 +102,9 @@ pub purged-dropping : (n : ℕ) (w : World) (x : Node) (l : List Record) → Sta
 unfolding purged
 purged-dropping n w x l stamped k acked =
     record {
-      order = above-sub _ (x .log);
       gone = λ r h i q j.
           let o = stamped .origin r (log-written n w (x .summary) (x .log) l r k h) in
-          acked-covers n w (x .acks) r acked o (above-gone (least (x .acks)) (x .log) r h i) q j;
+          let t = above-gone _ (x .log) r h i in
+          le-covers (w .summary q) r (omega (arith, t, acked-least n w (x .acks) acked q (r .origin) j o));
+      order = above-sub _ (x .log);
     }

@@ -12,7 +12,6 @@ use Rattle.meaning.specs.Rows.{least}
 use Rattle.meaning.specs.Table.{Node, nodesMost, count, node}
 use Rattle.meaning.specs.Node.{own, wrote, opened, finished, ended, purged}
 use Rattle.meaning.specs.Steps.{finishesA, finishesB, refusal, acted}
-use Rattle.meaning.specs.Frames.{wide}
 use Rattle.meaning.specs.Account.{Account, Run, stepped, ran, run}
 use Rattle.meaning.proofs.AccountLaws.{entry, le-least, raise-entry}
 use Rattle.meaning.proofs.TableLaws.{node-shaped}
