@@ -1,6 +1,6 @@
 -- What follows from demand 3 and its invariant in a few lines each, for every run from a fresh table.
 use mathlib.Core.Path.{_≡_, refl, sym, ap, _∙_}
-use mathlib.Core.Bool.{Bool, true, false, _&&_}
+use mathlib.Core.Bool.{Bool, true, false, _&&_, _||_}
 use mathlib.Core.Logic.{_⊎_, inl, inr}
 use mathlib.Core.List.{List, [], _∷_, _++_, append-nil, append-assoc, List·Nodup, Pairwise·sublistᴰ}
 use Prim.Native.Nat.{ℕ, zero, suc, _≤_, _<_}
@@ -19,7 +19,7 @@ use Rattle.meaning.specs.Frames.{widths, wide}
 use Rattle.meaning.specs.Journals.{afterAll}
 use Rattle.meaning.specs.Account.{has, lacking, Account, nothing, gains, gainsIf, noted, Run, noteIf, stepped, ran, run}
 use Rattle.meaning.proofs.RowLaws.{all, and-left, and-right, and-both}
-use Rattle.meaning.proofs.AccountLaws.{by-test, le-covers}
+use Rattle.meaning.proofs.AccountLaws.{by-test, has-append, sublist-has, le-covers}
 use Rattle.meaning.proofs.AccountInvariant.{log-written}
 use Rattle.meaning.proofs.AccountNodes.{purged-dropping}
 use Rattle.meaning.proofs.TableLaws.{Sound}
@@ -58,6 +58,14 @@ module _ (n : ℕ) (lo : 2 ≤ n) (hi : n ≤ nodesMost) (ss : List Step) where
       let c = le-covers (node (run n ss .table) (r .origin) .summary) r (sure .whole .stamped .reached r w) in
       let a = k .exact r ∙ and-both (has r (run n ss .account .written)) (covers (node (run n ss .table) (r .origin) .summary) r) w c in
       by-test (has r (node (run n ss .table) (r .origin) .log)) (λ h. inl (o, h)) (λ h. inr (demand3 n lo hi ss (r .origin) o .missing r a h))
+
+  -- no record is written twice, and two written records of one writer and one timestamp are one
+  pub written-once : List·Nodup (run n ss .account .written)
+  written-once = sure .whole .once
+
+  pub written-single : (r s : Record) → has r (run n ss .account .written) ≡ true → has s (run n ss .account .written) ≡ true → r .origin ≡ s .origin →
+      r .timestamp ≡ s .timestamp → r ≡ s
+  written-single = sure .whole .stamped .single
 
   -- a node's log never holds one record twice
   pub log-once : (p : ℕ) → p < n → List·Nodup (node (run n ss .table) p .log)
@@ -114,6 +122,17 @@ never-dropped x (s ∷ ss) q =
     let f = noteIf-more (refusal (x .table) (s .action)) (s .action) (x .account) q in
     let g = never-dropped (stepped x s) ss q in
     (f .0 ++ g .0, g .1 ∙ ap (λ (l : List Record). l ++ g .0) (f .1) ∙ append-assoc (x .account .of q) (f .0) (g .0))
+
+-- A record that a log has held and no longer holds, at whatever later point, is by then in every node's account.
+pub left-known : (n : ℕ) → 2 ≤ n → n ≤ nodesMost → (ss ts : List Step) (p : ℕ) → p < n → (r : Record) → has r (node (run n ss .table) p .log) ≡ true →
+    has r (node (run n (ss ++ ts) .table) p .log) ≡ false → (q : ℕ) → q < n → has r (run n (ss ++ ts) .account .of q) ≡ true
+left-known n lo hi ss ts p below r h gone =
+    let a = sublist-has (node (run n ss .table) p .log) (run n ss .account .of p) r (demand3 n lo hi ss p below .less) h in
+    let m = never-dropped (run n ss) ts p in
+    let b : has r (run n (ss ++ ts) .account .of p) ≡ true =
+    ap (λ (x : Run). has r (x .account .of p)) (run-append n ss ts) ∙ ap (has r) (m .1) ∙ has-append r (run n ss .account .of p) (m .0) ∙ ap (λ (t : Bool). t || has r (m .0)) a
+    in
+    demand3 n lo hi (ss ++ ts) p below .missing r b gone
 
 -- Soundness at every point ---------------------------------------------------------------------------------------------------------------------
 

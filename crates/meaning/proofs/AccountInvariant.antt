@@ -22,19 +22,23 @@ pub record World : Type 0 where
   pub written : List Record
   pub summary : ℕ → List ℕ
 
--- every written record names a node below n, and its timestamp is at most its writer's own summary entry
+-- Every written record names a node below n, its timestamp is at most its writer's own summary entry, and it is the only one of that writer
+-- with that timestamp.
 pub record Stamped (n : ℕ) (w : World) : Type 0 where
   pub origin : (r : Record) → has r (w .written) ≡ true → r .origin < n
   pub reached : (r : Record) → has r (w .written) ≡ true → r .timestamp ≤ entry (w .summary (r .origin)) (r .origin)
+  pub single : (r s : Record) → has r (w .written) ≡ true → has s (w .written) ≡ true → r .origin ≡ s .origin → r .timestamp ≡ s .timestamp → r ≡ s
 
 -- What a step may do to the world: nothing written is forgotten, no summary entry goes down, and a record written anew has a timestamp above
--- its writer's own entry before and not above it afterwards.
+-- its writer's own entry before and not above it afterwards; of one writer and timestamp, a step writes at most one.
 pub record Grows (n : ℕ) (w v : World) : Type 0 where
   pub written : (r : Record) → has r (w .written) ≡ true → has r (v .written) ≡ true
   pub summary : (q o : ℕ) → q < n → entry (w .summary q) o ≤ entry (v .summary q) o
   pub origin : (r : Record) → has r (w .written) ≡ false → has r (v .written) ≡ true → r .origin < n
   pub later : (r : Record) → has r (w .written) ≡ false → has r (v .written) ≡ true → entry (w .summary (r .origin)) (r .origin) < r .timestamp
   pub reached : (r : Record) → has r (w .written) ≡ false → has r (v .written) ≡ true → r .timestamp ≤ entry (v .summary (r .origin)) (r .origin)
+  pub single : (r s : Record) → has r (w .written) ≡ false → has r (v .written) ≡ true → has s (w .written) ≡ false → has s (v .written) ≡ true →
+      r .origin ≡ s .origin → r .timestamp ≡ s .timestamp → r ≡ s
 
 -- A node's summary, its log and its account in a world of n nodes: demand 3 at this node, and what carries it.
 pub record Kept (n : ℕ) (w : World) (summary : List ℕ) (log account : List Record) : Type 0 where
@@ -59,10 +63,28 @@ pub stamped-grows : (n : ℕ) (w v : World) → Grows n w v → Stamped n w → 
 stamped-grows n w v g k =
     record {
       origin = λ r h. by-test (has r (w .written)) (λ p. k .origin r p) (λ p. g .origin r p h);
-      reached = λ r h. by-test (has r (w .written))
+      reached = λ r h.
+          by-test (has r (w .written))
           (λ p. omega (arith, k .reached r p, g .summary (r .origin) (r .origin) (k .origin r p)))
           (λ p. g .reached r p h);
+      single = λ r s h i o t.
+          by-test (has r (w .written))
+          (λ p.
+          by-test (has s (w .written))
+          (λ q. k .single r s p q o t)
+          (λ q. absurd (later r s p q i o t)))
+          (λ p.
+          by-test (has s (w .written))
+          (λ q. absurd (later s r q p h (sym o) (sym t)))
+          (λ q. g .single r s p h q i o t));
     }
+  where
+    -- an old record and a new one never have one writer and one timestamp
+    later : (r s : Record) → has r (w .written) ≡ true → has s (w .written) ≡ false → has s (v .written) ≡ true → r .origin ≡ s .origin →
+        r .timestamp ≡ s .timestamp → ⊥
+    later r s p q i o t =
+        let a : r .timestamp ≤ entry (w .summary (s .origin)) (s .origin) = rw o at (k .reached r p) in
+        omega (arith, g .later s q i)
 
 -- a node that a step leaves alone
 pub kept-grows : (n : ℕ) (w v : World) → Grows n w v → (s : List ℕ) (log l : List Record) → Kept n w s log l → Kept n v s log l
@@ -114,11 +136,11 @@ pub record Raising (n : ℕ) (s t s′ : List ℕ) : Type 0 where
   pub wide : length s′ ≡ n
   pub greater : (o : ℕ) → entry s′ o ≡ max (entry s o) (entry t o)
 
--- A log takes from a partner: in the order of the accounts, nothing held is lost, and all that the partner held and the own account l lacked is held.
+-- A log takes from a partner: all that the partner held and the own account l lacked is held, nothing held is lost, and the order is the account's.
 pub record Taking (log theirs log′ l m : List Record) : Type 0 where
-  pub order : Sublistᴰ log′ (l ++ lacking l m)
-  pub keeps : (r : Record) → has r log ≡ true → has r log′ ≡ true
   pub takes : (r : Record) → has r theirs ≡ true → has r l ≡ false → has r log′ ≡ true
+  pub keeps : (r : Record) → has r log ≡ true → has r log′ ≡ true
+  pub order : Sublistᴰ log′ (l ++ lacking l m)
 
 -- The writer's own entry becomes the record's timestamp, and the record goes last in its log.
 pub record Writing (n : ℕ) (r : Record) (s s′ : List ℕ) (log log′ : List Record) : Type 0 where

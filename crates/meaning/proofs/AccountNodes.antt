@@ -1,7 +1,8 @@
 -- What document 01's actions do to one node is what the account allows: `opened`, `finished`, `wrote` and `purged` have the facts that the invariant
 -- of demand 3 names. A wrong action is refused here.
 use mathlib.Core.Path.{_≡_, refl, sym, _∙_}
-use mathlib.Core.List.{List, Sublistᴰ·append}
+use mathlib.Core.Bool.{true, false}
+use mathlib.Core.List.{List, _++_, Sublistᴰ, Sublistᴰ·append}
 use Prim.Native.Nat.{ℕ, _≤_, _<_}
 use native.Mathlib.Omega.{arith}
 use lib.ListN.{length, set, length-set}
@@ -12,7 +13,7 @@ use Rattle.meaning.specs.declared.Record.{Record}
 use Rattle.meaning.specs.Rows.{least, newer}
 use Rattle.meaning.specs.Table.{Node}
 use Rattle.meaning.specs.Node.{own, wrote, opened, finished, purged}
-use Rattle.meaning.specs.Account.{has}
+use Rattle.meaning.specs.Account.{has, lacking}
 use Rattle.meaning.proofs.RowLaws.{length-raise}
 use Rattle.meaning.proofs.AccountLaws.{by-test, has-append, has-newer, newer-sublist, above-sub, above-gone, entry, least-le, raise-entry, le-covers}
 use Rattle.meaning.proofs.AccountInvariant.{World, Stamped, Kept, Acked, Reading, Acking, Raising, Taking, Writing, Dropping, lacking-newer, log-written, acked-least}
@@ -65,24 +66,29 @@ unfolding finished
 finished-acks n mine theirs a b =
     record { wide = length-raise (mine .acks) (theirs .acks) n a b; greater = λ o. raise-entry (mine .acks) (theirs .acks) o (a ∙ sym b) }
 
-pub finished-taking : (n : ℕ) (w : World) (mine theirs : Node) (l m : List Record) → Kept n w (mine .summary) (mine .log) l →
-    Kept n w (theirs .summary) (theirs .log) m → Taking (mine .log) (theirs .log) (finished mine theirs .log) l m
-unfolding finished
-finished-taking n w mine theirs l m h k =
-    record {
-      takes = λ r a f.
-          let b = has-append r (mine .log) (newer (mine .summary) (theirs .log)) in
-          let c = has-newer r (mine .summary) (theirs .log) in
-          let d = log-written n w (theirs .summary) (theirs .log) m r k a in
-          let e = h .exact r in
-          by-test (has r (mine .log)) (λ z. cc) (λ z. cc);
-      keeps = λ r a.
-          let b = has-append r (mine .log) (newer (mine .summary) (theirs .log)) in
-          cc;
-      order =
-          rw (lacking-newer n w (mine .summary) (theirs .summary) (mine .log) (theirs .log) l m h k)
-          (Sublistᴰ·append (h .less) (newer-sublist (mine .summary) (k .less)));
-    }
+module _ (n : ℕ) (w : World) (mine theirs : Node) (l m : List Record) (h : Kept n w (mine .summary) (mine .log) l)
+    (k : Kept n w (theirs .summary) (theirs .log) m) where
+  finished-takes : (r : Record) → has r (theirs .log) ≡ true → has r l ≡ false → has r (finished mine theirs .log) ≡ true
+  unfolding finished
+  finished-takes r a f =
+      let b = has-append r (mine .log) (newer (mine .summary) (theirs .log)) in
+      let c = has-newer r (mine .summary) (theirs .log) in
+      let d = log-written n w (theirs .summary) (theirs .log) m r k a in
+      let e = h .exact r in
+      by-test (has r (mine .log)) (λ z. cc) (λ z. cc)
+
+  finished-keeps : (r : Record) → has r (mine .log) ≡ true → has r (finished mine theirs .log) ≡ true
+  unfolding finished
+  finished-keeps r a = let b = has-append r (mine .log) (newer (mine .summary) (theirs .log)) in cc
+
+  finished-order : Sublistᴰ (finished mine theirs .log) (l ++ lacking l m)
+  unfolding finished
+  finished-order =
+      rw (lacking-newer n w (mine .summary) (theirs .summary) (mine .log) (theirs .log) l m h k)
+      (Sublistᴰ·append (h .less) (newer-sublist (mine .summary) (k .less)))
+
+  pub finished-taking : Taking (mine .log) (theirs .log) (finished mine theirs .log) l m
+  finished-taking = record { takes = finished-takes; keeps = finished-keeps; order = finished-order }
 
 -- Writing
 pub wrote-writing : (n p t b v : ℕ) (x : Node) → p < n → length (x .summary) ≡ n →

@@ -2,7 +2,8 @@
 -- The nodes are any function from numbers to nodes, so a table of another form only says what its nodes are.
 use mathlib.Core.Path.{_≡_, refl, sym, ap, _∙_, subst}
 use mathlib.Core.Bool.{Bool, true, false, _||_}
-use mathlib.Core.List.{List, [], _∷_, _++_}
+use mathlib.Core.Logic.{_≢_}
+use mathlib.Core.List.{List, [], _∷_, _++_, List·Nodup, pairwise-singleton}
 use Prim.Native.Nat.{ℕ, _≤_, _<_}
 use native.Mathlib.Omega.{arith}
 use lib.ListN.{length, length-set}
@@ -14,7 +15,7 @@ use Rattle.meaning.specs.Table.{Node}
 use Rattle.meaning.specs.Node.{own, wrote, opened, finished, ended, purged}
 use Rattle.meaning.specs.Steps.{finishesA, finishesB}
 use Rattle.meaning.specs.Account.{sameRecord, has, lacking, Account, gains, gainsIf, noted}
-use Rattle.meaning.proofs.AccountLaws.{by-test, not-both, same-eq, has-append, has-one, entry}
+use Rattle.meaning.proofs.AccountLaws.{by-test, not-both, same-eq, has-append, has-one, once-append, entry}
 use Rattle.meaning.proofs.AccountInvariant.{World, Stamped, Grows, Kept, Acked, Writing, stamped-grows, kept-grows, acked-grows, kept-reading, acked-acking, acked-raising, kept-taking, kept-writing, kept-dropping}
 use Rattle.meaning.proofs.AccountNodes.{set-up, opened-reading, opened-acking, finished-summary, finished-acks, finished-taking, wrote-writing, purged-dropping}
 
@@ -27,8 +28,9 @@ pub record Holds (n : ℕ) (w : World) (x : Node) (account : List Record) : Type
 abbrev pub world : (ℕ → Node) → Account → World
 world nodes x = record { written = x .written; summary = λ q. nodes q .summary }
 
--- The whole cluster: every written record is stamped right, and every node below n has the invariant.
+-- The whole cluster: no record was written twice, each is stamped right, and every node below n has the invariant.
 pub record Whole (n : ℕ) (nodes : ℕ → Node) (x : Account) : Type 0 where
+  pub once : List·Nodup (x .written)
   pub stamped : Stamped n (world nodes x)
   pub holds : (q : ℕ) → q < n → Holds n (world nodes x) (nodes q) (x .of q)
 
@@ -91,6 +93,16 @@ module _ (n : ℕ) (nodes nodes′ : ℕ → Node) (x : Account) (p c b v : ℕ)
   is-new : (r : Record) → has r (x .written) ≡ false → has r (next .written) ≡ true → r ≡ new
   is-new r f t = let g = gained r in same-eq r new (cc)
 
+  -- the record was not written before: its timestamp is above all of its writer's
+  unwritten : (r : Record) → has r (x .written) ≡ true → has r (new ∷ []) ≡ false
+  unfolding new
+  unwritten r h =
+      by-test (has r (new ∷ []))
+      (λ e.
+      let q = same-eq r new (sym (has-one r new) ∙ e) in
+      absurd (omega (arith, own-below, rw q at (k .stamped .reached r h))))
+      (λ e. e)
+
   write-grows : Grows n (world nodes x) (world nodes′ next)
   unfolding new
   write-grows =
@@ -103,12 +115,14 @@ module _ (n : ℕ) (nodes nodes′ : ℕ → Node) (x : Account) (p c b v : ℕ)
         origin = λ r f t. rw (is-new r f t) below;
         later = λ r f t. rw (is-new r f t) own-below;
         reached = λ r f t. rw (is-new r f t) (omega (arith, top));
+        single = λ r s f t g u o c. is-new r f t ∙ sym (is-new s g u);
       }
 
   pub whole-write : Whole n nodes′ (noted (Write p c b v) x)
   unfolding next new noted wrote
   whole-write =
       record {
+        once = once-append (x .written) (new ∷ []) (k .once) (pairwise-singleton (λ (r s : Record). r ≢ s) new) unwritten;
         stamped = stamped-grows n (world nodes x) (world nodes′ next) write-grows (k .stamped);
         holds =
             each (λ (q : ℕ). Holds n (world nodes′ next) (nodes′ q) (next .of q)) n p
@@ -141,6 +155,7 @@ module _ (n : ℕ) (nodes nodes′ : ℕ → Node) (x : Account) (p : ℕ) (belo
         origin = λ r f t. not-both (has r (x .written)) t f;
         later = λ r f t. not-both (has r (x .written)) t f;
         reached = λ r f t. not-both (has r (x .written)) t f;
+        single = λ r s f t. not-both (has r (x .written)) t f;
       }
 
   purge-holds : Holds n (world nodes′ x) (nodes p) (x .of p)
@@ -153,6 +168,7 @@ module _ (n : ℕ) (nodes nodes′ : ℕ → Node) (x : Account) (p : ℕ) (belo
   unfolding noted purged
   whole-purge =
       record {
+        once = k .once;
         stamped = purge-stamped;
         holds =
             each (λ (q : ℕ). Holds n (world nodes′ x) (nodes′ q) (x .of q)) n p
@@ -288,6 +304,7 @@ module _ (n : ℕ) (nodes nodes′ : ℕ → Node) (x : Account) (a b ca cb outc
         origin = λ r f t. not-both (has r (x .written)) t f;
         later = λ r f t. not-both (has r (x .written)) t f;
         reached = λ r f t. not-both (has r (x .written)) t f;
+        single = λ r s f t. not-both (has r (x .written)) t f;
       }
 
   startA : Holds n (world nodes′ met) (opened a ca (nodes a)) (x .of a)
@@ -302,6 +319,7 @@ module _ (n : ℕ) (nodes nodes′ : ℕ → Node) (x : Account) (a b ca cb outc
   unfolding met noted
   whole-session =
       record {
+        once = k .once;
         stamped = stamped-grows n (world nodes x) (world nodes′ met) session-grows (k .stamped);
         holds =
             each (λ (q : ℕ). Holds n (world nodes′ met) (nodes′ q) (met .of q)) n a

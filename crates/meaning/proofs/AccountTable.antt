@@ -52,7 +52,8 @@ sure-fresh n lo hi =
       counted = c;
       whole =
           record {
-            stamped = record { origin = λ r h. not-both (has r []) h (none r); reached = λ r h. not-both (has r []) h (none r) };
+            once = Pairwise·nil;
+            stamped = record { origin = λ r h. not-both (has r []) h (none r); reached = λ r h. not-both (has r []) h (none r); single = λ r s h. not-both (has r []) h (none r) };
             holds = λ q h.
                 let f = node-shaped (fresh n) s q (omega arith) in
                 record {
