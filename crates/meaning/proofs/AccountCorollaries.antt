@@ -140,6 +140,7 @@ left-known n lo hi ss ts p below r h gone =
 abbrev pub allWide : List Step → Bool
 allWide ss = all (λ (s : Step). wide (s .action)) ss
 
+-- such a step's verdict keeps a table sound
 wide-verdict : (a : Action) → wide a ≡ true → verdictOf a ≤ 255
 unfolding wide widths
 wide-verdict (Write p c b v) h =
@@ -151,6 +152,7 @@ wide-verdict (Write p c b v) h =
 wide-verdict (Session a b ca cb o) h = omega arith
 wide-verdict (Purge p) h = omega arith
 
+-- a sound table stays sound through every such list, so from a fresh one every table of a run is sound
 pub ran-sound : (x : Run) (ss : List Step) → allWide ss ≡ true → Sound (x .table) → Sound (ran x ss .table)
 unfolding ran stepped all
 ran-sound x [] h s = s

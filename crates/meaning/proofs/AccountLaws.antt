@@ -3,7 +3,24 @@
 use mathlib.Core.Path.{_≡_, refl, sym, ap, subst}
 use mathlib.Core.Bool.{Bool, true, false, not, _&&_, _||_, Bool-set}
 use mathlib.Core.Logic.{∥∥₁-elim}
-use mathlib.Core.List.{List, [], _∷_, _++_, List·Mem, List·Memᴰ, List·Memᴰ·head, List·Memᴰ·tail, List·Nodup, Sublistᴰ, Sublistᴰ·slnil, Sublistᴰ·cons, Sublistᴰ·cons-cons, nodup-append, Nodup·sublist, Sublist·subset}
+use mathlib.Core.List.{
+  List,
+  [],
+  _∷_,
+  _++_,
+  List·Mem,
+  List·Memᴰ,
+  List·Memᴰ·head,
+  List·Memᴰ·tail,
+  List·Nodup,
+  Sublistᴰ,
+  Sublistᴰ·slnil,
+  Sublistᴰ·cons,
+  Sublistᴰ·cons-cons,
+  nodup-append,
+  Nodup·sublist,
+  Sublist·subset,
+}
 use Prim.Native.Nat.{ℕ, zero, suc, _≤_, _<_, max}
 use native.Mathlib.Omega.{arith}
 use lib.ListN.{length, getD}

@@ -16,7 +16,21 @@ use Rattle.meaning.specs.Node.{own, wrote, opened, finished, purged}
 use Rattle.meaning.specs.Account.{has, lacking}
 use Rattle.meaning.proofs.RowLaws.{length-raise}
 use Rattle.meaning.proofs.AccountLaws.{by-test, has-append, has-newer, newer-sublist, above-sub, above-gone, entry, least-le, raise-entry, le-covers}
-use Rattle.meaning.proofs.AccountInvariant.{World, Stamped, Kept, Acked, Reading, Acking, Raising, Taking, Writing, Dropping, lacking-newer, log-written, acked-least}
+use Rattle.meaning.proofs.AccountInvariant.{
+  World,
+  Stamped,
+  Kept,
+  Acked,
+  Reading,
+  Acking,
+  Raising,
+  Taking,
+  Writing,
+  Dropping,
+  lacking-newer,
+  log-written,
+  acked-least,
+}
 
 -- an entry that is set to no less never goes down
 pub set-up : (s : List ℕ) (p c o : ℕ) → p < length s → entry s p ≤ c → entry s o ≤ entry (set s p c) o

@@ -15,7 +15,21 @@ use Rattle.meaning.specs.Steps.{finishesA, finishesB, refusal, acted}
 use Rattle.meaning.specs.Account.{Account, Run, stepped, ran, run}
 use Rattle.meaning.proofs.AccountLaws.{entry, le-least, raise-entry}
 use Rattle.meaning.proofs.TableLaws.{node-shaped}
-use Rattle.meaning.proofs.StepLaws.{Accepted, accepted, wrote-shaped, purged-shaped, opened-shaped, session-a, session-b, session-other, one-same, one-other, write-facts, purge-facts, session-facts}
+use Rattle.meaning.proofs.StepLaws.{
+  Accepted,
+  accepted,
+  wrote-shaped,
+  purged-shaped,
+  opened-shaped,
+  session-a,
+  session-b,
+  session-other,
+  one-same,
+  one-other,
+  write-facts,
+  purge-facts,
+  session-facts,
+}
 use Rattle.meaning.proofs.AccountSteps.{Whole, each}
 use Rattle.meaning.proofs.AccountNodes.{set-up}
 use Rattle.meaning.proofs.AccountTable.{Sure, sure-run, sure-stepped, stepped-accepted, stepped-refused}

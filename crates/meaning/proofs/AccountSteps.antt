@@ -16,8 +16,33 @@ use Rattle.meaning.specs.Node.{own, wrote, opened, finished, ended, purg
 use Rattle.meaning.specs.Steps.{finishesA, finishesB}
 use Rattle.meaning.specs.Account.{sameRecord, has, lacking, Account, gains, gainsIf, noted}
 use Rattle.meaning.proofs.AccountLaws.{by-test, not-both, same-eq, has-append, has-one, once-append, entry}
-use Rattle.meaning.proofs.AccountInvariant.{World, Stamped, Grows, Kept, Acked, Writing, stamped-grows, kept-grows, acked-grows, kept-reading, acked-acking, acked-raising, kept-taking, kept-writing, kept-dropping}
-use Rattle.meaning.proofs.AccountNodes.{set-up, opened-reading, opened-acking, finished-summary, finished-acks, finished-taking, wrote-writing, purged-dropping}
+use Rattle.meaning.proofs.AccountInvariant.{
+  World,
+  Stamped,
+  Grows,
+  Kept,
+  Acked,
+  Writing,
+  stamped-grows,
+  kept-grows,
+  acked-grows,
+  kept-reading,
+  acked-acking,
+  acked-raising,
+  kept-taking,
+  kept-writing,
+  kept-dropping,
+}
+use Rattle.meaning.proofs.AccountNodes.{
+  set-up,
+  opened-reading,
+  opened-acking,
+  finished-summary,
+  finished-acks,
+  finished-taking,
+  wrote-writing,
+  purged-dropping,
+}
 
 -- A node and its account have the invariant.
 pub record Holds (n : ℕ) (w : World) (x : Node) (account : List Record) : Type 0 where

@@ -15,7 +15,26 @@ use Rattle.meaning.specs.Steps.{refusal, acted}
 use Rattle.meaning.specs.Account.{has, Account, nothing, noted, Run, noteIf, stepped, ran, run}
 use Rattle.meaning.proofs.PlaceLaws.{getD-part}
 use Rattle.meaning.proofs.TableLaws.{node-shaped}
-use Rattle.meaning.proofs.StepLaws.{Accepted, accepted, after-accepted, after-refused, wrote-shaped, purged-shaped, session-a, session-b, session-other, one-same, one-other, write-facts, purge-facts, session-facts, acted-count, fresh-count, fresh-log, fresh-sound}
+use Rattle.meaning.proofs.StepLaws.{
+  Accepted,
+  accepted,
+  after-accepted,
+  after-refused,
+  wrote-shaped,
+  purged-shaped,
+  session-a,
+  session-b,
+  session-other,
+  one-same,
+  one-other,
+  write-facts,
+  purge-facts,
+  session-facts,
+  acted-count,
+  fresh-count,
+  fresh-log,
+  fresh-sound,
+}
 use Rattle.meaning.proofs.AccountLaws.{not-both, entry}
 use Rattle.meaning.proofs.AccountSteps.{Whole, whole-write, whole-session, whole-purge}
 

@@ -1,4 +1,5 @@
--- Demand 3: no finding is lost. One page; the invariant that proves it stands in AccountInvariant, AccountSteps and AccountTable.
+-- Demand 3: no finding is lost. One page; the invariant that proves it stands in AccountInvariant, what each action does to a node in AccountNodes,
+-- the cluster in AccountSteps, the table in AccountTable; what follows from it in AccountCorollaries, AccountRises and AccountJournals.
 --
 -- The briefing: "Start from a fresh table of 2 to 16 nodes and take any list of steps, leaving out the refused ones. Beside it keep a plain
 -- account that never drops a record: a node gains its own writes, and from each session it finishes all that the partner's account held at its
@@ -8,8 +9,9 @@
 -- How to read it. `run n ss` (specs/Account.antt) is what the list of steps `ss` makes of a fresh table of n nodes: `.table` is the table itself,
 -- 4,625 words, changed by `after`, the function that the code's contracts cite; `.account` is the plain account beside it, which looks at no vector
 -- and no acknowledgement. `node t p` is node p as it stands in the table t. `has r l` says whether the list l has the record r, word for word.
--- Any list of steps: also one whose steps are wrong, since a refused step changes neither the table nor the account. All three hold after every
--- step, since the first steps of a list are a list themselves.
+-- Any list of steps: also one whose steps are wrong, since a refused step changes neither the table nor the account, and whatever numbers stand in
+-- their fields: soundness is a fact of each accepted step, by refusal 1, and need not be carried along. All three hold after every step, since the
+-- first steps of a list are a list themselves.
 use mathlib.Core.Path.{_≡_, sym, _∙_}
 use mathlib.Core.Bool.{true, false, _&&_}
 use mathlib.Core.Logic.{_↔_}
