@@ -1,7 +1,8 @@
 // Where each part of a table stands: the offsets of specs/Table.antt as code. No other file of the product's code knows one.
 ghost use mathlib.Core.Path.{_≡_};
 ghost use Prim.Native.Nat.{_<_};
-ghost use Rattle.meaning.specs.Table.{nodesMost, summaryAt, acksAt, heldAt, logAt};
+ghost use lib.ListN.{length};
+ghost use Rattle.meaning.specs.Table.{tableWords, nodesMost, summaryAt, acksAt, heldAt, logAt, count, held};
 
 // "A lent table of exactly 4,625 words of 32 bits"
 pub const TABLE_WORDS: usize = 4625;
@@ -51,4 +52,20 @@ pub fn log_at(p: usize) -> usize
     ensures { λ r. ⌜ r ≡ logAt p ⌝ }
 {
     529 + LOG_WORDS * p
+}
+
+// The count that a table states.
+pub fn count_of(t: &[u32]) -> u32
+    requires { ⌜ length (now t) ≡ tableWords ⌝ }
+    ensures { λ r. ⌜ r ≡ count (now (t .entry)) ⌝ }
+{
+    t[COUNT_AT]
+}
+
+// The held number that a table states for node p.
+pub fn held_of(t: &[u32], p: usize) -> u32
+    requires { ⌜ (length (now t) ≡ tableWords) × (p < nodesMost) ⌝ }
+    ensures { λ r. ⌜ r ≡ held (now (t .entry)) p ⌝ }
+{
+    t[held_at(p)]
 }

@@ -5,3 +5,14 @@ pub mod TableLaws
 pub mod StepLaws
 pub mod FrameLaws
 pub mod JournalLaws
+pub mod PutLaws
+pub mod SoundLaws
+pub mod AccountLaws
+pub mod AccountInvariant
+pub mod AccountNodes
+pub mod AccountSteps
+pub mod AccountTable
+pub mod Demand3
+pub mod AccountCorollaries
+pub mod AccountRises
+pub mod AccountJournals

@@ -239,3 +239,42 @@ ltb-not-leb a b = go (decLe b a)
     go : Dec (b ≤ a) → ltb a b ≡ not (leb b a)
     go (yes h) = le-ltb a b h ∙ sym (ap not (le-leb b a h))
     go (no h) = lt-ltb a b (omega arith) ∙ sym (ap not (lt-leb b a (omega arith)))
+
+-- more rows, no fewer kept
+newer-grows-by : (s : List ℕ) (w : List ℕ) (i d : ℕ) → length (newer s (records i w)) ≤ length (newer s (records (i + d) w))
+newer-grows-by s w i zero = rw (add-zero i) (omega arith)
+newer-grows-by s w i (suc d) =
+    let h = newer-grows-by s w i d in
+    let e : i + suc d ≡ (i + d) + 1 = omega arith in
+    let l = ap length (newer-row s (i + d) w) ∙ length-append (newer s (records (i + d) w)) (newer s (recordAt w (i + d) ∷ [])) in
+    rw e (omega arith)
+
+pub newer-grows : (s w : List ℕ) (i j : ℕ) → i ≤ j → length (newer s (records i w)) ≤ length (newer s (records j w))
+newer-grows s w i j h =
+    let e : i + (j - i) ≡ j = omega arith in
+    rw e at (newer-grows-by s w i (j - i))
+
+pub no-records : (w : List ℕ) → records 0 w ≡ []
+unfolding records
+no-records w = refl
+
+pub newer-none : (s w : List ℕ) → newer s (records 0 w) ≡ []
+unfolding newer keep records
+newer-none s w = refl
+
+pub above-none : (limit : ℕ) (w : List ℕ) → above limit (records 0 w) ≡ []
+unfolding above keep records
+above-none limit w = refl
+
+pub words-none : words [] ≡ []
+unfolding words
+words-none = refl
+
+-- at most one record comes of one
+pub newer-one-is : (s : List ℕ) (r : Record) (b : Bool) → not (covers s r) ≡ b → newer s (r ∷ []) ≡ keepIf b r []
+unfolding newer keep
+newer-one-is s r b e = rw e
+
+pub above-one-is : (limit : ℕ) (r : Record) (b : Bool) → not (leb (r .timestamp) limit) ≡ b → above limit (r ∷ []) ≡ keepIf b r []
+unfolding above keep
+above-one-is limit r b e = rw e

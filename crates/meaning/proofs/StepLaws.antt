@@ -11,10 +11,12 @@ use lib.Dec.{leb, ltb, eqb}
 use Rattle.meaning.specs.declared.Record.{Record}
 use Rattle.meaning.specs.declared.Action.{Action}
 use Rattle.meaning.specs.declared.Action.the-variants.{Write, Session, Purge}
+use Rattle.meaning.specs.declared.Reply.{Reply}
+use Rattle.meaning.specs.declared.Reply.the-variants.{Refused}
 use Rattle.meaning.specs.Rows.{given, keep, raise, least, newer, above, covers, records, unless}
 use Rattle.meaning.specs.Table.{Node, tableWords, nodesMost, logMost, heldAt, logAt, part, count, held, node, putNode, fresh, recordSound, sound}
 use Rattle.meaning.specs.Node.{own, wrote, opened, finished, ended, purged}
-use Rattle.meaning.specs.Steps.{finishesA, finishesB, outcomeAbove, nodeAbsent, nodeTwice, clockBack, overfull, noRoom, refusal, acted, after}
+use Rattle.meaning.specs.Steps.{finishesA, finishesB, outcomeAbove, nodeAbsent, nodeTwice, clockBack, overfull, noRoom, refusal, acted, reported, reply, after}
 use Rattle.meaning.proofs.RowLaws.{all, all-append, all-keep, length-keep, and-both, length-raise}
 use Rattle.meaning.proofs.TableLaws.{Sound, Shaped, sound-facts, facts-sound, sound-put, node-shaped, node-same, node-other, put-count, put-long, put-held-other}
 
@@ -311,3 +313,33 @@ fresh-sound n lo hi =
       room = λ p h. let e = fresh-held n p (omega arith) in omega arith;
       right = λ p h. rw (fresh-log n p (omega arith));
     }
+
+-- How code answers: a refusal, or what was done
+pub refuse : (t : List ℕ) (x : Action) (k : ℕ) → refusal t x ≡ suc k → (Refused (suc k) ≡ reply t x) × (t ≡ after t x)
+unfolding reply after
+refuse t x k h = (rw h, rw h)
+
+pub accept : (t : List ℕ) (x : Action) → refusal t x ≡ 0 → (reported t x ≡ reply t x) × (acted t x ≡ after t x)
+unfolding reply after
+accept t x h = (rw h, rw h)
+
+-- The refusals of a sound table, by the kind of action
+pub refusal-sound :
+    (t : List ℕ) → Sound t → (x : Action) →
+    refusal t x ≡ given (outcomeAbove x) 2 (given (nodeAbsent (count t) x) 3 (given (nodeTwice x) 4 (given (clockBack t x) 5 (given (noRoom t x) 6 0))))
+unfolding refusal
+refusal-sound t s x = rw (facts-sound t s)
+
+pub write-refusal :
+    (t : List ℕ) → Sound t → (p c b v : ℕ) →
+    refusal t (Write p c b v) ≡ given (leb (count t) p) 3 (given (leb c (own p (node t p))) 5 (given (leb logMost (length (node t p .log))) 6 0))
+unfolding outcomeAbove nodeAbsent nodeTwice clockBack noRoom
+write-refusal t s p c b v = refusal-sound t s (Write p c b v)
+
+pub purge-refusal : (t : List ℕ) → Sound t → (p : ℕ) → refusal t (Purge p) ≡ given (leb (count t) p) 3 0
+unfolding outcomeAbove nodeAbsent nodeTwice clockBack noRoom
+purge-refusal t s p = refusal-sound t s (Purge p)
+
+pub unsound-refusal : (t : List ℕ) (x : Action) → sound t ≡ false → refusal t x ≡ 1
+unfolding refusal
+unsound-refusal t x h = rw h

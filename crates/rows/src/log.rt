@@ -5,8 +5,10 @@ ghost use mathlib.Core.List.{[], _∷_, _++_};
 ghost use Prim.Native.Nat.{_+_, _*_, _≤_, _<_};
 ghost use lib.ListN.{length, replicate};
 ghost use Rattle.meaning.specs.Rows.{covers, newer, above, recordAt, records, words};
-ghost use Rattle.meaning.specs.Table.{part, place, recordSound};
+ghost use Rattle.meaning.specs.Table.{logMost, part, place, recordSound};
 ghost use Rattle.meaning.proofs.RowLaws.{all};
+ghost use Rattle.rows.specs.Carry.{Carries, CarriesAll};
+use layout::LOG_WORDS;
 use meaning::Record;
 
 // Fills a row of four words with a record.
@@ -70,6 +72,65 @@ pub fn newer_count(summary: &[u32], log: &[u32], held: usize) -> usize
     let mut i: usize = 0;
     while i < held {
         k += newer_one(summary, record_at(log, i));
+        i += 1;
+    }
+    k
+}
+
+// Carries one record of the log at `from` to the place `to`, if it is newer than the summary: 1 if so, else 0.
+fn carry_one(t: &mut [u32], from: usize, row: usize, to: usize, summary: &[u32]) -> usize
+    requires { ⌜ Carries (now t) from row to (now summary) ⌝ }
+    ensures { λ n. ⌜ (n ≡ length (newer (now (summary .entry)) (recordAt (part from (4 * logMost) (now (t .entry))) row ∷ []))) × (now (t .exit) ≡ place to (words (newer (now (summary .entry)) (recordAt (part from (4 * logMost) (now (t .entry))) row ∷ []))) (now (t .entry))) ⌝ }
+{
+    let end = from + LOG_WORDS;
+    let r = record_at(&t[from..end], row);
+    if is_newer(summary, r) {
+        put_record(t, to, r);
+        1
+    } else {
+        0
+    }
+}
+
+// Carries to the place `to`, in their order, those of the first `held` records of the log at `from` that are newer than the summary.
+// What it writes lies apart from that log. How many it carried.
+pub fn carry(t: &mut [u32], from: usize, held: usize, to: usize, summary: &[u32]) -> usize
+    requires { ⌜ CarriesAll (now t) from held to (now summary) ⌝ }
+    ensures { λ n. ⌜ (n ≡ length (newer (now (summary .entry)) (records held (part from (4 * logMost) (now (t .entry)))))) × (now (t .exit) ≡ place to (words (newer (now (summary .entry)) (records held (part from (4 * logMost) (now (t .entry)))))) (now (t .entry))) ⌝ }
+{
+    let mut k: usize = 0;
+    let mut i: usize = 0;
+    while i < held {
+        k += carry_one(t, from, i, to + 4 * k, summary);
+        i += 1;
+    }
+    k
+}
+
+// Moves one record of a log up to row k, if its timestamp is above the limit: 1 if so, else 0.
+fn close_one(log: &mut [u32], row: usize, k: usize, limit: u32) -> usize
+    requires { ⌜ (k ≤ row) × (4 * row + 4 ≤ length (now log)) ⌝ }
+    ensures { λ n. ⌜ (n ≡ length (above limit (recordAt (now (log .entry)) row ∷ []))) × (now (log .exit) ≡ place (4 * k) (words (above limit (recordAt (now (log .entry)) row ∷ []))) (now (log .entry))) ⌝ }
+{
+    let r = record_at(log, row);
+    if r.timestamp <= limit {
+        0
+    } else {
+        put_record(log, 4 * k, r);
+        1
+    }
+}
+
+// Closes up the first `held` records of a log whose timestamps are above the limit, in their order; the rows behind them are as they were.
+// How many are left.
+pub fn close_up(log: &mut [u32], held: usize, limit: u32) -> usize
+    requires { ⌜ 4 * held ≤ length (now log) ⌝ }
+    ensures { λ n. ⌜ (n ≡ length (above limit (records held (now (log .entry))))) × (now (log .exit) ≡ place 0 (words (above limit (records held (now (log .entry))))) (now (log .entry))) ⌝ }
+{
+    let mut k: usize = 0;
+    let mut i: usize = 0;
+    while i < held {
+        k += close_one(log, i, k, limit);
         i += 1;
     }
     k

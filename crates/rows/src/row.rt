@@ -1,7 +1,7 @@
 // Leaves over one row of numbers, or one word of a list.
 ghost use mathlib.Core.Path.{_≡_};
 ghost use mathlib.Core.List.{[], _∷_};
-ghost use Prim.Native.Nat.{_<_};
+ghost use Prim.Native.Nat.{_+_, _≤_, _<_};
 ghost use lib.ListN.{length, replicate};
 ghost use Rattle.meaning.specs.Rows.{least, raise};
 ghost use Rattle.meaning.specs.Table.{place};
@@ -62,4 +62,35 @@ pub fn clear(row: &mut [u32])
         row[i] = 0;
         i += 1;
     }
+}
+
+// Copies a row over another of its length.
+pub fn copy_row(to: &mut [u32], from: &[u32])
+    requires { ⌜ length (now from) ≡ length (now to) ⌝ }
+    ensures { λ _. ⌜ now (to .exit) ≡ now (from .entry) ⌝ }
+{
+    let mut i: usize = 0;
+    while i < to.len() {
+        to[i] = from[i];
+        i += 1;
+    }
+}
+
+// Puts a row of words.
+pub fn put_row(t: &mut [u32], at: usize, row: &[u32])
+    requires { ⌜ at + length (now row) ≤ length (now t) ⌝ }
+    ensures { λ _. ⌜ now (t .exit) ≡ place at (now (row .entry)) (now (t .entry)) ⌝ }
+{
+    let end = at + row.len();
+    copy_row(&mut t[at..end], row);
+}
+
+// Puts, entry by entry, the greater of two rows.
+pub fn put_raised(t: &mut [u32], at: usize, mine: &[u32], theirs: &[u32])
+    requires { ⌜ (at + length (now mine) ≤ length (now t)) × (length (now theirs) ≡ length (now mine)) ⌝ }
+    ensures { λ _. ⌜ now (t .exit) ≡ place at (raise (now (mine .entry)) (now (theirs .entry))) (now (t .entry)) ⌝ }
+{
+    put_row(t, at, mine);
+    let end = at + mine.len();
+    raise_row(&mut t[at..end], theirs);
 }

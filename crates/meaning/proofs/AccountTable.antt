@@ -1,0 +1,158 @@
+-- The invariant of demand 3 on the table itself: a fresh table has it, and every step keeps it, accepted or refused.
+use mathlib.Core.Path.{_≡_, refl, sym, _∙_, subst}
+use mathlib.Core.Bool.{false}
+use mathlib.Core.List.{List, [], _∷_, Sublistᴰ·slnil, Pairwise·nil}
+use Prim.Native.Nat.{ℕ, zero, suc, _+_, _*_, _≤_, _<_}
+use native.Mathlib.Omega.{arith}
+use lib.ListN.{getD, getD-replicate}
+use Rattle.meaning.specs.declared.Record.{Record}
+use Rattle.meaning.specs.declared.Action.{Action}
+use Rattle.meaning.specs.declared.Action.the-variants.{Write, Session, Purge}
+use Rattle.meaning.specs.declared.Step.{Step}
+use Rattle.meaning.specs.Table.{nodesMost, summaryAt, acksAt, count, node, fresh}
+use Rattle.meaning.specs.Node.{wrote, purged}
+use Rattle.meaning.specs.Steps.{refusal, acted}
+use Rattle.meaning.specs.Account.{has, Account, nothing, noted, Run, noteIf, stepped, ran, run}
+use Rattle.meaning.proofs.PlaceLaws.{getD-part}
+use Rattle.meaning.proofs.TableLaws.{node-shaped}
+use Rattle.meaning.proofs.StepLaws.{
+  Accepted,
+  accepted,
+  after-accepted,
+  after-refused,
+  wrote-shaped,
+  purged-shaped,
+  session-a,
+  session-b,
+  session-other,
+  one-same,
+  one-other,
+  write-facts,
+  purge-facts,
+  session-facts,
+  acted-count,
+  fresh-count,
+  fresh-log,
+  fresh-sound,
+}
+use Rattle.meaning.proofs.AccountLaws.{not-both, entry}
+use Rattle.meaning.proofs.AccountSteps.{Whole, whole-write, whole-session, whole-purge}
+
+-- The table of a run has n nodes, and they have the invariant with the account beside them.
+pub record Sure (n : ℕ) (x : Run) : Type 0 where
+  pub counted : count (x .table) ≡ n
+  pub whole : Whole n (node (x .table)) (x .account)
+
+-- A fresh table ------------------------------------------------------------------------------------------------------------------------------
+
+fresh-word : (n i : ℕ) → i < 4624 → getD (fresh n) (suc i) 0 ≡ 0
+unfolding fresh
+fresh-word n i h = getD-replicate 4624 i 0 0 h
+
+fresh-summary : (n p o : ℕ) → p < nodesMost → o < n → n ≤ nodesMost → entry (node (fresh n) p .summary) o ≡ 0
+unfolding node count
+fresh-summary n p o h j k =
+    getD-part (summaryAt p) (count (fresh n)) (fresh n) o (suc (16 * p + o)) (omega arith) (omega (arith, fresh-count n)) ∙
+    fresh-word n (16 * p + o) (omega arith)
+
+fresh-acks : (n p o : ℕ) → p < nodesMost → o < n → n ≤ nodesMost → entry (node (fresh n) p .acks) o ≡ 0
+unfolding node count
+fresh-acks n p o h j k =
+    getD-part (acksAt p) (count (fresh n)) (fresh n) o (suc (256 + 16 * p + o)) (omega arith) (omega (arith, fresh-count n)) ∙
+    fresh-word n (256 + 16 * p + o) (omega arith)
+
+pub sure-fresh : (n : ℕ) → 2 ≤ n → n ≤ nodesMost → Sure n (record { table = fresh n; account = nothing })
+unfolding has
+sure-fresh n lo hi =
+    let c = fresh-count n in
+    let s = fresh-sound n lo hi in
+    let none : (r : Record) → has r [] ≡ false = λ r. refl in
+    record {
+      counted = c;
+      whole =
+          record {
+            once = Pairwise·nil;
+            stamped = record { origin = λ r h. not-both (has r []) h (none r); reached = λ r h. not-both (has r []) h (none r); single = λ r s h. not-both (has r []) h (none r) };
+            holds = λ q h.
+                let f = node-shaped (fresh n) s q (omega arith) in
+                record {
+                  kept =
+                      record {
+                        wide = f .summaryLong ∙ c;
+                        behind = λ o j. omega (arith, fresh-summary n q o (omega arith) j hi);
+                        exact = λ r. refl;
+                        once = Pairwise·nil;
+                        less = rw (fresh-log n q (omega arith)) Sublistᴰ·slnil;
+                        known = λ r a b. not-both (has r []) a (none r);
+                      };
+                  acked = record { wide = f .acksLong ∙ c; reached = λ p o j i. omega (arith, fresh-acks n q p (omega arith) j hi) };
+                };
+          };
+    }
+
+-- A step -------------------------------------------------------------------------------------------------------------------------------------
+
+whole-acted : (t : List ℕ) (a : Action) (x : Account) → Accepted t a → Whole (count t) (node t) x → Whole (count t) (node (acted t a)) (noted a x)
+unfolding acted
+whole-acted t (Write p c b v) x k w =
+    let f = write-facts t p c b v k in
+    let s = k .isSound in
+    let fits = wrote-shaped (count t) (node t p) (node-shaped t s p (f .0)) p c b v (f .2) in
+    whole-write (count t) (node t) (node (acted t (Write p c b v))) x p c b v (f .0) (f .1)
+    (one-same t s p (f .0) (wrote p c b v (node t p)) fits)
+    (one-other t s p (f .0) (wrote p c b v (node t p)) fits) w
+whole-acted t (Session a b ca cb o) x k w =
+    let f = session-facts t a b ca cb o k in
+    let s = k .isSound in
+    whole-session (count t) (node t) (node (acted t (Session a b ca cb o))) x a b ca cb o (f .0) (f .1) (f .2) (f .3) (f .4)
+    (session-a t s a b ca cb o (f .0) (f .1) (f .2) (k .room))
+    (session-b t s a b ca cb o (f .0) (f .1) (f .2) (k .room))
+    (session-other t s a b ca cb o (f .0) (f .1) (f .2) (k .room)) w
+whole-acted t (Purge p) x k w =
+    let f = purge-facts t p k in
+    let s = k .isSound in
+    let fits = purged-shaped (count t) (node t p) (node-shaped t s p f) in
+    whole-purge (count t) (node t) (node (acted t (Purge p))) x p f
+    (one-same t s p f (purged (node t p)) fits)
+    (one-other t s p f (purged (node t p)) fits) w
+
+-- what a step leaves of a run, accepted or refused
+pub stepped-accepted : (x : Run) (s : Step) → refusal (x .table) (s .action) ≡ 0 →
+    stepped x s ≡ record { table = acted (x .table) (s .action); account = noted (s .action) (x .account) }
+unfolding stepped
+stepped-accepted x s h =
+    let e = after-accepted (x .table) (s .action) h in
+    λ i. record { table = e i; account = noteIf (h i) (s .action) (x .account) }
+
+pub stepped-refused : (x : Run) (s : Step) (k : ℕ) → refusal (x .table) (s .action) ≡ suc k → stepped x s ≡ x
+unfolding stepped
+stepped-refused x s k h =
+    let e = after-refused (x .table) (s .action) k h in
+    λ i. record { table = e i; account = noteIf (h i) (s .action) (x .account) }
+
+sure-acted : (n : ℕ) (x : Run) (a : Action) → Accepted (x .table) a → Sure n x → Sure n (record { table = acted (x .table) a; account = noted a (x .account) })
+sure-acted n x a k u =
+    record {
+      counted = acted-count (x .table) a k ∙ u .counted;
+      whole =
+          subst (λ (m : ℕ). Whole m (node (acted (x .table) a)) (noted a (x .account))) (u .counted)
+          (whole-acted (x .table) a (x .account) k (subst (λ (m : ℕ). Whole m (node (x .table)) (x .account)) (sym (u .counted)) (u .whole)));
+    }
+
+sure-stepped-at : (n : ℕ) (x : Run) (s : Step) (k : ℕ) → refusal (x .table) (s .action) ≡ k → Sure n x → Sure n (stepped x s)
+sure-stepped-at n x s zero h u = rw (stepped-accepted x s h) (sure-acted n x (s .action) (accepted (x .table) (s .action) h) u)
+sure-stepped-at n x s (suc k) h u = rw (stepped-refused x s k h) u
+
+pub sure-stepped : (n : ℕ) (x : Run) (s : Step) → Sure n x → Sure n (stepped x s)
+sure-stepped n x s u = sure-stepped-at n x s (refusal (x .table) (s .action)) refl u
+
+-- A list of steps ----------------------------------------------------------------------------------------------------------------------------
+
+pub sure-ran : (n : ℕ) (x : Run) (ss : List Step) → Sure n x → Sure n (ran x ss)
+unfolding ran
+sure-ran n x [] u = u
+sure-ran n x (s ∷ ss) u = sure-ran n (stepped x s) ss (sure-stepped n x s u)
+
+pub sure-run : (n : ℕ) → 2 ≤ n → n ≤ nodesMost → (ss : List Step) → Sure n (run n ss)
+unfolding run
+sure-run n lo hi ss = sure-ran n (record { table = fresh n; account = nothing }) ss (sure-fresh n lo hi)

@@ -1,0 +1,127 @@
+-- Laws about soundness: a test at every number, a log's greatest origin and verdict, and where a record of a log stands in the table.
+use mathlib.Core.Path.{_≡_, refl, sym, ap, _∙_}
+use mathlib.Core.Bool.{Bool, true, false, _&&_, and-false}
+use mathlib.Core.List.{List}
+use Prim.Native.Nat.{ℕ, zero, suc, _+_, _*_, _<_, _≤_, max}
+use native.Mathlib.Nat.{max-le, suc-max-suc, le-max-left, le-max-right}
+use native.Mathlib.Numerals.{add-one}
+use native.Mathlib.Omega.{arith}
+use borrow.Author.Tests.{ltb-true, ltb-false, lt-ltb, eq-eqb, ne-eqb, leb-true, leb-false, le-leb, lt-leb}
+use lib.ListN.{length, getD, take, drop}
+use lib.Seq.{getD-take, getD-drop}
+use lib.Dec.{leb, ltb}
+use Rattle.meaning.specs.Rows.{every, recordAt}
+use Rattle.meaning.specs.Table.{tableWords, nodesMost, logMost, logAt, part, count, held, recordSound, logSound, sound}
+
+-- no number, and one number more
+pub every-none : (f : ℕ → Bool) → every 0 f ≡ true
+unfolding every
+every-none f = refl
+
+pub every-more : (n : ℕ) (f : ℕ → Bool) → every (n + 1) f ≡ (every n f && f n)
+unfolding every
+every-more n f = rw (add-one)
+
+pub every-last : (n : ℕ) (f : ℕ → Bool) → every n f ≡ true → f n ≡ true → every (n + 1) f ≡ true
+every-last n f before last = rw (every-more, before) last
+
+pub every-whole : (n p : ℕ) (f : ℕ → Bool) → p ≤ n → n ≤ p → every p f ≡ true → true ≡ every n f
+every-whole n p f below above all = let same : p ≡ n = omega arith in rw (← same) (sym all)
+
+-- tests that agree below n
+pub every-same : (n : ℕ) (f g : ℕ → Bool) → ((i : ℕ) → i < n → f i ≡ g i) → every n f ≡ every n g
+unfolding every
+every-same zero f g same = refl
+every-same (suc n) f g same = cc (every-same n f g (λ i h. same i (omega arith)), same n (omega arith))
+
+-- a test that fails at one number fails
+pub every-not : (n : ℕ) (f : ℕ → Bool) (i : ℕ) → i < n → f i ≡ false → every n f ≡ false
+unfolding every
+every-not zero f i h e = absurd (omega arith)
+every-not (suc n) f i h e = go (λ before. every-not n f i before e) (ltb i n) refl
+  where
+    go : (i < n → every n f ≡ false) → (b : Bool) → ltb i n ≡ b → (every n f && f n) ≡ false
+    go below true t = cc (below (ltb-true i n t))
+    go below false t = let last : i ≡ n = omega (arith, ltb-false i n t, h) in cc (and-false (every n f))
+
+-- the greater of two numbers is at most n if both are
+leb-max : (a b n : ℕ) → leb (max a b) n ≡ (leb a n && leb b n)
+leb-max a b n = go (leb a n) (leb b n) refl refl
+  where
+    go : (p q : Bool) → leb a n ≡ p → leb b n ≡ q → leb (max a b) n ≡ (p && q)
+    go true true hp hq = le-leb (max a b) n (max-le (leb-true a n hp) (leb-true b n hq))
+    go true false hp hq = lt-leb (max a b) n (omega (arith, leb-false b n hq))
+    go false q hp hq = lt-leb (max a b) n (omega (arith, leb-false a n hp))
+
+ltb-max : (a b n : ℕ) → ltb (max a b) n ≡ (ltb a n && ltb b n)
+ltb-max a b n = rw (← suc-max-suc) (leb-max (suc a) (suc b) n)
+
+crossed : (a b c d : Bool) → ((a && b) && (c && d)) ≡ ((a && c) && (b && d))
+crossed true b true d = refl
+crossed true true false d = refl
+crossed true false false d = refl
+crossed false b c d = refl
+
+-- The scan of a log of words w, where o is the greatest origin and v the greatest verdict of the k records passed.
+module _ (w : List ℕ) (n : ℕ) where
+  pub scan-starts : 0 < n → (ltb 0 n && leb 0 255) ≡ every 0 (λ i. recordSound n (recordAt w i))
+  unfolding every
+  scan-starts h = rw (lt-ltb 0 n h)
+
+  pub scan-more : (k o v o' v' : ℕ)
+      → o' ≡ max o (getD w (4 * k) 0)
+      → v' ≡ max v (getD w (4 * k + 3) 0)
+      → (ltb o n && leb v 255) ≡ every k (λ i. recordSound n (recordAt w i))
+      → (ltb o' n && leb v' 255) ≡ every (k + 1) (λ i. recordSound n (recordAt w i))
+  unfolding recordSound recordAt
+  scan-more k o v o' v' eo ev before =
+      rw (eo, ev, every-more, ltb-max, leb-max, ← before)
+      (crossed (ltb o n) (ltb (getD w (4 * k) 0) n) (leb v 255) (leb (getD w (4 * k + 3) 0) 255))
+
+  -- the answer after the last record, b what the origins' test says
+  pub scan-ends : (b : Bool) (k held o v : ℕ) → k ≤ held → held ≤ k → ltb o n ≡ b
+      → (ltb o n && leb v 255) ≡ every k (λ i. recordSound n (recordAt w i))
+      → (b && leb v 255) ≡ every held (λ i. recordSound n (recordAt w i))
+  scan-ends b k held o v below above t before = let all : k ≡ held = omega arith in rw (← t, ← all) before
+
+-- A record of a log's held part is that of the whole log.
+pub recordAt-held : (t : List ℕ) (at k m i : ℕ) → i < k → 4 * k ≤ m → recordAt (take (4 * k) (drop at t)) i ≡ recordAt (part at m t) i
+unfolding recordAt part
+recordAt-held t at k m i h room =
+    let same : (j : ℕ) → j < 4 * k → getD (take (4 * k) (drop at t)) j 0 ≡ getD (take m (drop at t)) j 0
+    = λ j below. getD-take (4 * k) (drop at t) j 0 below ∙ sym (getD-take m (drop at t) j 0 (omega arith))
+    in
+    cc (same (4 * i) (omega arith), same (4 * i + 1) (omega arith), same (4 * i + 2) (omega arith), same (4 * i + 3) (omega arith))
+
+-- A log that holds too many is not sound; one that does not is sound if its held part is.
+module _ (t : List ℕ) (p : ℕ) where
+  pub log-full : (h : ℕ) → h ≡ held t p → logMost < h → false ≡ logSound t p
+  unfolding logSound
+  log-full h e most = rw (lt-leb (held t p) logMost (omega arith))
+
+  pub log-scanned : (n h at k : ℕ) (r : Bool) → n ≡ count t → h ≡ held t p → h ≤ logMost → at ≡ logAt p
+      → r ≡ every h (λ i. recordSound n (recordAt (take k (drop at t)) i))
+      → k ≡ 4 * h
+      → r ≡ logSound t p
+  unfolding logSound
+  log-scanned n h at k r en eh most ea er ek =
+      rw (er, en, ea, ek, ← eh, le-leb h logMost most)
+      (every-same h _ _ (λ i below. ap (recordSound (count t)) (recordAt-held t (logAt p) h (4 * logMost) i below (omega arith))))
+
+-- The table's answer from its parts, in the order of the tests.
+module _ (t : List ℕ) where
+  pub unsound-length : (length t ≡ tableWords → ⊥) → false ≡ sound t
+  unfolding sound
+  unsound-length wrong = rw (ne-eqb (length t) tableWords wrong)
+
+  pub unsound-few : (n : ℕ) → length t ≡ tableWords → n ≡ count t → n < 2 → false ≡ sound t
+  unfolding sound
+  unsound-few n right en few = rw (eq-eqb (length t) tableWords right, ← en, lt-leb 2 n few)
+
+  pub unsound-many : (n : ℕ) → length t ≡ tableWords → n ≡ count t → 2 ≤ n → nodesMost < n → false ≡ sound t
+  unfolding sound
+  unsound-many n right en enough many = rw (eq-eqb (length t) tableWords right, ← en, le-leb 2 n enough, lt-leb n nodesMost many)
+
+  pub sound-logs : (n : ℕ) (r : Bool) → length t ≡ tableWords → n ≡ count t → 2 ≤ n → n ≤ nodesMost → r ≡ every n (logSound t) → r ≡ sound t
+  unfolding sound
+  sound-logs n r right en enough most er = rw (eq-eqb (length t) tableWords right, ← en, le-leb 2 n enough, le-leb n nodesMost most) er
