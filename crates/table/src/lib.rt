@@ -2,4 +2,5 @@
 // The entry points take any words at all; what a module below them requires, they have shown.
 pub mod look;
 pub mod purge;
+pub mod session;
 pub mod write;

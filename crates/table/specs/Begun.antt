@@ -1,0 +1,36 @@
+-- What a side of a session begins with, as the code keeps it: two rows of 16 of which the first n count. And what the inner functions
+-- of a session require.
+use mathlib.Core.Path.{_≡_}
+use mathlib.Core.Bool.{Bool, true, false}
+use mathlib.Core.List.{List}
+use Prim.Native.Nat.{ℕ, _+_, _*_, _≤_, _<_}
+use lib.ListN.{length, take}
+use Rattle.meaning.specs.declared.Record.{Record}
+use Rattle.meaning.specs.Rows.{newer, records}
+use Rattle.meaning.specs.Table.{Node, logMost, logAt, part, count, held, node, recordSound}
+use Rattle.meaning.specs.Node.{opened}
+use Rattle.meaning.specs.Steps.{overfull}
+use Rattle.meaning.proofs.RowLaws.{all}
+use Rattle.meaning.proofs.TableLaws.{Sound}
+use Rattle.table.specs.declared.session.Start.{Start}
+
+-- the node that a side's starting rows and a log make
+abbrev pub begun : ℕ → Start → List Record → Node
+begun n s log = record { summary = take n (s .summary); acks = take n (s .acks); log = log }
+
+-- the first k records of node q's log
+abbrev pub heldLog : List ℕ → ℕ → ℕ → List Record
+heldLog t q k = records k (part (logAt q) (4 * logMost) t)
+
+-- Two nodes of a sound table of n, their starting rows and the numbers of records they began with
+pub record Sides (t : List ℕ) (n p q : ℕ) (mine theirs : Start) (mineHeld theirsHeld : ℕ) : Type 0 where
+  pub isSound : Sound t
+  pub counted : n ≡ count t
+  pub here : p < count t
+  pub there : q < count t
+  pub apart : p ≡ q → ⊥
+  pub mineLong : (length (take n (mine .summary)) ≡ n) × (length (take n (mine .acks)) ≡ n)
+  pub theirsLong : (length (take n (theirs .summary)) ≡ n) × (length (take n (theirs .acks)) ≡ n)
+  pub mineNow : mineHeld ≡ held t p
+  pub theirsMost : theirsHeld ≤ logMost
+  pub theirsRight : all (recordSound n) (heldLog t q theirsHeld) ≡ true
