@@ -7,7 +7,7 @@ use Prim.Native.Nat.{ℕ, _+_, _*_, _≤_, _<_}
 use lib.ListN.{length, take}
 use Rattle.meaning.specs.declared.Record.{Record}
 use Rattle.meaning.specs.Rows.{newer, records}
-use Rattle.meaning.specs.Table.{Node, logMost, logAt, part, count, held, node, recordSound}
+use Rattle.meaning.specs.Table.{Node, tableWords, nodesMost, logMost, logAt, part, count, held, node, recordSound}
 use Rattle.meaning.specs.Node.{opened}
 use Rattle.meaning.specs.Steps.{overfull}
 use Rattle.meaning.proofs.RowLaws.{all}
@@ -34,3 +34,11 @@ pub record Sides (t : List ℕ) (n p q : ℕ) (mine theirs : Start) (mineHeld th
   pub mineNow : mineHeld ≡ held t p
   pub theirsMost : theirsHeld ≤ logMost
   pub theirsRight : all (recordSound n) (heldLog t q theirsHeld) ≡ true
+
+-- Rows of n entries, to be put at node p of a table of the right length
+pub record Raises (t : List ℕ) (n p : ℕ) (mine theirs : Start) : Type 0 where
+  pub long : length t ≡ tableWords
+  pub high : n ≤ nodesMost
+  pub here : p < nodesMost
+  pub mineLong : (length (take n (mine .summary)) ≡ n) × (length (take n (mine .acks)) ≡ n)
+  pub theirsLong : (length (take n (theirs .summary)) ≡ n) × (length (take n (theirs .acks)) ≡ n)

@@ -1,14 +1,14 @@
 // Session: two nodes trade what the other lacks. Document 01, "The three actions".
 ghost use mathlib.Core.Path.{_≡_};
-ghost use mathlib.Core.Bool.{false};
+ghost use mathlib.Core.Bool.{true, false};
 ghost use Prim.Native.Nat.{_+_, _≤_, _<_};
 ghost use lib.ListN.{length, take};
-ghost use Rattle.meaning.specs.Rows.{newer};
-ghost use Rattle.meaning.specs.Table.{count, held, node, putNode};
+ghost use Rattle.meaning.specs.Rows.{newer, raise};
+ghost use Rattle.meaning.specs.Table.{logMost, count, held, node, place, putNode, summaryAt, acksAt};
 ghost use Rattle.meaning.specs.Node.{opened, finished, ended};
 ghost use Rattle.meaning.specs.Steps.{overfull, carried};
 ghost use Rattle.meaning.proofs.TableLaws.{Sound};
-ghost use Rattle.table.specs.Begun.{begun, heldLog, Sides};
+ghost use Rattle.table.specs.Begun.{begun, heldLog, Raises, Sides};
 use super::look::held_of;
 use super::look::nodes_of;
 use super::look::own_of;
@@ -58,4 +58,97 @@ fn settle(t: &mut [u32], p: usize, n: usize, mine: Start)
     let summary = mine.summary;
     put_row(t, layout::acks_at(p), &acks[0..n]);
     put_row(t, layout::summary_at(p), &summary[0..n]);
+}
+
+// "A side that finishes appends, in the partner's log order, those records the partner held at the start" that are newer than its own
+// starting summary; "It then takes, entry by entry, the greater of both": how many records it took.
+fn finish(
+    t: &mut [u32],
+    n: usize,
+    p: usize,
+    q: usize,
+    mine: Start,
+    theirs: Start,
+    mine_held: usize,
+    theirs_held: usize,
+) -> usize
+    requires { ⌜ Sides (now t) n p q mine theirs «mine_held» «theirs_held» × (overfull true (begun n mine (node (now t) p .log)) (begun n theirs (heldLog (now t) q «theirs_held»)) ≡ false) ⌝ }
+    ensures { λ r. ⌜ (r ≡ length (newer (take n (mine .summary)) (heldLog (now (t .entry)) q «theirs_held»))) × (now (t .exit) ≡ putNode p (finished (begun n mine (node (now (t .entry)) p .log)) (begun n theirs (heldLog (now (t .entry)) q «theirs_held»))) (now (t .entry))) ⌝ }
+{
+    let summary = mine.summary;
+    let taken = carry(
+        t,
+        layout::log_at(q),
+        theirs_held,
+        layout::log_at(p) + 4 * mine_held,
+        &summary[0..n],
+    );
+    put_word(t, layout::held_at(p), (mine_held + taken) as u32);
+    raise_rows(t, n, p, mine, theirs);
+    taken
+}
+
+// Puts both rows raised to the partner's.
+fn raise_rows(t: &mut [u32], n: usize, p: usize, mine: Start, theirs: Start)
+    requires { ⌜ Raises (now t) n p mine theirs ⌝ }
+    ensures { λ _. ⌜ now (t .exit) ≡ place (summaryAt p) (raise (take n (mine .summary)) (take n (theirs .summary))) (place (acksAt p) (raise (take n (mine .acks)) (take n (theirs .acks))) (now (t .entry))) ⌝ }
+{
+    let acks = mine.acks;
+    let their_acks = theirs.acks;
+    put_raised(t, layout::acks_at(p), &acks[0..n], &their_acks[0..n]);
+    let summary = mine.summary;
+    let their_summary = theirs.summary;
+    put_raised(
+        t,
+        layout::summary_at(p),
+        &summary[0..n],
+        &their_summary[0..n],
+    );
+}
+
+// One side of a session, finishing or not: how many records it took.
+fn side(
+    t: &mut [u32],
+    finishes: bool,
+    n: usize,
+    p: usize,
+    q: usize,
+    mine: Start,
+    theirs: Start,
+    mine_held: usize,
+    theirs_held: usize,
+) -> usize
+    requires { ⌜ Sides (now t) n p q mine theirs «mine_held» «theirs_held» × (overfull finishes (begun n mine (node (now t) p .log)) (begun n theirs (heldLog (now t) q «theirs_held»)) ≡ false) ⌝ }
+    ensures { λ r. ⌜ (r ≡ carried finishes (begun n mine (node (now (t .entry)) p .log)) (begun n theirs (heldLog (now (t .entry)) q «theirs_held»))) × (r ≤ logMost) × (now (t .exit) ≡ putNode p (ended finishes (begun n mine (node (now (t .entry)) p .log)) (begun n theirs (heldLog (now (t .entry)) q «theirs_held»))) (now (t .entry))) ⌝ }
+{
+    if finishes {
+        finish(t, n, p, q, mine, theirs, mine_held, theirs_held)
+    } else {
+        settle(t, p, n, mine);
+        0
+    }
+}
+
+// 6: "a finishing side would hold more than 64". "Number 6 asks nothing of a side that doesn't finish."
+fn overfills(
+    t: &[u32],
+    finishes: bool,
+    n: usize,
+    p: usize,
+    q: usize,
+    mine: Start,
+    theirs: Start,
+    mine_held: usize,
+    theirs_held: usize,
+) -> bool
+    requires { ⌜ Sides (now t) n p q mine theirs «mine_held» «theirs_held» ⌝ }
+    ensures { λ r. ⌜ r ≡ overfull finishes (begun n mine (node (now (t .entry)) p .log)) (begun n theirs (heldLog (now (t .entry)) q «theirs_held»)) ⌝ }
+{
+    if !finishes {
+        return false;
+    }
+    let at = layout::log_at(q);
+    let end = at + layout::LOG_WORDS;
+    let summary = mine.summary;
+    layout::LOG_MOST < mine_held + newer_count(&summary[0..n], &t[at..end], theirs_held)
 }
