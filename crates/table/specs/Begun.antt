@@ -42,3 +42,13 @@ pub record Raises (t : List ℕ) (n p : ℕ) (mine theirs : Start) : Type 0 wher
   pub here : p < nodesMost
   pub mineLong : (length (take n (mine .summary)) ≡ n) × (length (take n (mine .acks)) ≡ n)
   pub theirsLong : (length (take n (theirs .summary)) ≡ n) × (length (take n (theirs .acks)) ≡ n)
+
+-- Two nodes of a sound table of n that meet, with their starting rows
+pub record Meets (t : List ℕ) (n a b : ℕ) (sa sb : Start) : Type 0 where
+  pub isSound : Sound t
+  pub counted : n ≡ count t
+  pub hereA : a < count t
+  pub hereB : b < count t
+  pub apart : a ≡ b → ⊥
+  pub longA : (length (take n (sa .summary)) ≡ n) × (length (take n (sa .acks)) ≡ n)
+  pub longB : (length (take n (sb .summary)) ≡ n) × (length (take n (sb .acks)) ≡ n)

@@ -1,17 +1,20 @@
 // Session: two nodes trade what the other lacks. Document 01, "The three actions".
 ghost use mathlib.Core.Path.{_≡_};
-ghost use mathlib.Core.Bool.{true, false};
+ghost use mathlib.Core.Bool.{true, false, _||_};
 ghost use Prim.Native.Nat.{_+_, _≤_, _<_};
 ghost use lib.ListN.{length, take};
+ghost use lib.Dec.{eqb};
 ghost use Rattle.meaning.specs.Rows.{newer, raise};
 ghost use Rattle.meaning.specs.Table.{logMost, count, held, node, place, putNode, summaryAt, acksAt};
 ghost use Rattle.meaning.specs.Node.{opened, finished, ended};
-ghost use Rattle.meaning.specs.Steps.{overfull, carried};
+ghost use Rattle.meaning.specs.Steps.{finishesA, finishesB, overfull, carried};
+ghost use Rattle.meaning.specs.declared.Reply.{Reply};
 ghost use Rattle.meaning.proofs.TableLaws.{Sound};
-ghost use Rattle.table.specs.Begun.{begun, heldLog, Raises, Sides};
+ghost use Rattle.table.specs.Begun.{begun, heldLog, Meets, Raises, Sides};
 use super::look::held_of;
 use super::look::nodes_of;
 use super::look::own_of;
+use meaning::Reply;
 use rows::log::carry;
 use rows::log::newer_count;
 use rows::row::copy_row;
@@ -151,4 +154,34 @@ fn overfills(
     let end = at + layout::LOG_WORDS;
     let summary = mine.summary;
     layout::LOG_MOST < mine_held + newer_count(&summary[0..n], &t[at..end], theirs_held)
+}
+
+// "outcome 0 finishes neither side, 1 only a, 2 only b, 3 both": whether a side finishes that `only` names.
+fn finishes(outcome: u8, only: u8) -> bool
+    ensures { λ r. ⌜ r ≡ (eqb outcome only || eqb outcome 3) ⌝ }
+{
+    outcome == only || outcome == 3
+}
+
+// Both sides of a session that has room, each from the starting values.
+fn trade(
+    t: &mut [u32],
+    outcome: u8,
+    n: usize,
+    a: usize,
+    b: usize,
+    sa: Start,
+    sb: Start,
+    held_a: usize,
+    held_b: usize,
+) -> Reply
+    requires { ⌜ Meets (now t) n a b sa sb × («held_a» ≡ held (now t) a) × («held_b» ≡ held (now t) b) × (overfull (finishesA outcome) (begun n sa (node (now t) a .log)) (begun n sb (node (now t) b .log)) ≡ false) × (overfull (finishesB outcome) (begun n sb (node (now t) b .log)) (begun n sa (node (now t) a .log)) ≡ false) ⌝ }
+    ensures { λ r. ⌜ (r ≡ Reply.Carried (carried (finishesA outcome) (begun n sa (node (now (t .entry)) a .log)) (begun n sb (node (now (t .entry)) b .log))) (carried (finishesB outcome) (begun n sb (node (now (t .entry)) b .log)) (begun n sa (node (now (t .entry)) a .log)))) × (now (t .exit) ≡ putNode b (ended (finishesB outcome) (begun n sb (node (now (t .entry)) b .log)) (begun n sa (node (now (t .entry)) a .log))) (putNode a (ended (finishesA outcome) (begun n sa (node (now (t .entry)) a .log)) (begun n sb (node (now (t .entry)) b .log))) (now (t .entry)))) ⌝ }
+{
+    let to_a = side(t, finishes(outcome, 1), n, a, b, sa, sb, held_a, held_b);
+    let to_b = side(t, finishes(outcome, 2), n, b, a, sb, sa, held_b, held_a);
+    Reply::Carried {
+        a: to_a as u32,
+        b: to_b as u32,
+    }
 }
