@@ -1,15 +1,17 @@
 -- What a side of a session begins with, as the code keeps it: two rows of 16 of which the first n count. And what the inner functions
 -- of a session require.
 use mathlib.Core.Path.{_≡_}
-use mathlib.Core.Bool.{Bool, true, false}
+use mathlib.Core.Bool.{Bool, true, _||_}
 use mathlib.Core.List.{List}
 use Prim.Native.Nat.{ℕ, _+_, _*_, _≤_, _<_}
 use lib.ListN.{length, take}
 use Rattle.meaning.specs.declared.Record.{Record}
-use Rattle.meaning.specs.Rows.{newer, records}
-use Rattle.meaning.specs.Table.{Node, tableWords, nodesMost, logMost, logAt, part, count, held, node, recordSound}
-use Rattle.meaning.specs.Node.{opened}
-use Rattle.meaning.specs.Steps.{overfull}
+use Rattle.meaning.specs.declared.Reply.{Reply}
+use Rattle.meaning.specs.declared.Reply.the-variants.{Carried}
+use Rattle.meaning.specs.Rows.{given, unless, records}
+use Rattle.meaning.specs.Table.{Node, tableWords, nodesMost, logMost, logAt, part, count, held, node, putNode, recordSound}
+use Rattle.meaning.specs.Node.{ended}
+use Rattle.meaning.specs.Steps.{finishesA, finishesB, overfull, carried, replied}
 use Rattle.meaning.proofs.RowLaws.{all}
 use Rattle.meaning.proofs.TableLaws.{Sound}
 use Rattle.table.specs.declared.session.Start.{Start}
@@ -52,3 +54,20 @@ pub record Meets (t : List ℕ) (n a b : ℕ) (sa sb : Start) : Type 0 where
   pub apart : a ≡ b → ⊥
   pub longA : (length (take n (sa .summary)) ≡ n) × (length (take n (sa .acks)) ≡ n)
   pub longB : (length (take n (sb .summary)) ≡ n) × (length (take n (sb .acks)) ≡ n)
+
+-- What a session between two nodes comes to, from their starting rows: refused with 6 and nothing changed, or both sides ended
+abbrev pub crowded : List ℕ → ℕ → ℕ → ℕ → ℕ → Start → Start → Bool
+crowded t o n a b sa sb =
+    overfull (finishesA o) (begun n sa (node t a .log)) (begun n sb (node t b .log)) ||
+    overfull (finishesB o) (begun n sb (node t b .log)) (begun n sa (node t a .log))
+
+pub record Exchanged (t : List ℕ) (o n a b : ℕ) (sa sb : Start) (r : Reply) (u : List ℕ) : Type 0 where
+  pub replies :
+      r ≡
+      replied (given (crowded t o n a b sa sb) 6 0)
+      (Carried (carried (finishesA o) (begun n sa (node t a .log)) (begun n sb (node t b .log))) (carried (finishesB o) (begun n sb (node t b .log)) (begun n sa (node t a .log))))
+  pub leaves :
+      u ≡
+      unless (given (crowded t o n a b sa sb) 6 0)
+      (putNode b (ended (finishesB o) (begun n sb (node t b .log)) (begun n sa (node t a .log))) (putNode a (ended (finishesA o) (begun n sa (node t a .log)) (begun n sb (node t b .log))) t))
+      t

@@ -10,7 +10,7 @@ ghost use Rattle.meaning.specs.Node.{opened, finished, ended};
 ghost use Rattle.meaning.specs.Steps.{finishesA, finishesB, overfull, carried};
 ghost use Rattle.meaning.specs.declared.Reply.{Reply};
 ghost use Rattle.meaning.proofs.TableLaws.{Sound};
-ghost use Rattle.table.specs.Begun.{begun, heldLog, Meets, Raises, Sides};
+ghost use Rattle.table.specs.Begun.{begun, heldLog, Exchanged, Meets, Raises, Sides};
 use super::look::held_of;
 use super::look::nodes_of;
 use super::look::own_of;
@@ -184,4 +184,20 @@ fn trade(
         a: to_a as u32,
         b: to_b as u32,
     }
+}
+
+// The session between two nodes whose readings are in order: refused with 6, or both sides traded.
+fn exchange(t: &mut [u32], outcome: u8, n: usize, a: usize, b: usize, sa: Start, sb: Start) -> Reply
+    requires { ⌜ Meets (now t) n a b sa sb ⌝ }
+    ensures { λ r. ⌜ Exchanged (now (t .entry)) outcome n a b sa sb r (now (t .exit)) ⌝ }
+{
+    let held_a = held_of(t, a);
+    let held_b = held_of(t, b);
+    if overfills(t, finishes(outcome, 1), n, a, b, sa, sb, held_a, held_b) {
+        return Reply::Refused { number: 6 };
+    }
+    if overfills(t, finishes(outcome, 2), n, b, a, sb, sa, held_b, held_a) {
+        return Reply::Refused { number: 6 };
+    }
+    trade(t, outcome, n, a, b, sa, sb, held_a, held_b)
 }
