@@ -395,3 +395,11 @@ module _ (t : List ℕ) (s : Sound t) (p q : ℕ) (hp : p < count t) (hq : q < c
       log-begins once p k (node t p .log) (taken f x y)
       (ap (λ (z : Node). z .log) (node-same t (s .long) (count t) (s .high) p low′ (ended f x y) fits (s .room p hp) refl) ∙ ended-log f x y ∙ ap (λ (l : List Record). l ++ taken f x y) lx)
       (sym (held-log t p) ∙ sym e)
+
+-- The refusals of a session on a sound table
+pub session-refusal :
+    (t : List ℕ) → Sound t → (a b ca cb o : ℕ) →
+    refusal t (Session a b ca cb o) ≡
+    given (ltb 3 o) 2 (given (leb (count t) a || leb (count t) b) 3 (given (eqb a b) 4 (given (clockBack t (Session a b ca cb o)) 5 (given (noRoom t (Session a b ca cb o)) 6 0))))
+unfolding outcomeAbove nodeAbsent nodeTwice
+session-refusal t s a b ca cb o = refusal-sound t s (Session a b ca cb o)

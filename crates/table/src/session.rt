@@ -4,10 +4,11 @@ ghost use mathlib.Core.Bool.{true, false, _||_};
 ghost use Prim.Native.Nat.{_+_, _≤_, _<_};
 ghost use lib.ListN.{length, take};
 ghost use lib.Dec.{eqb};
-ghost use Rattle.meaning.specs.Rows.{newer, raise};
+ghost use Rattle.meaning.specs.Rows.{given, newer, raise, unless};
 ghost use Rattle.meaning.specs.Table.{logMost, count, held, node, place, putNode, summaryAt, acksAt};
 ghost use Rattle.meaning.specs.Node.{opened, finished, ended};
-ghost use Rattle.meaning.specs.Steps.{finishesA, finishesB, overfull, carried};
+ghost use Rattle.meaning.specs.Steps.{finishesA, finishesB, clockBack, overfull, noRoom, acted, carried, reported, replied, reply, after};
+ghost use Rattle.meaning.specs.declared.Action.{Action};
 ghost use Rattle.meaning.specs.declared.Reply.{Reply};
 ghost use Rattle.meaning.proofs.TableLaws.{Sound};
 ghost use Rattle.table.specs.Begun.{begun, heldLog, Exchanged, Meets, Raises, Sides};
@@ -200,4 +201,44 @@ fn exchange(t: &mut [u32], outcome: u8, n: usize, a: usize, b: usize, sa: Start,
         return Reply::Refused { number: 6 };
     }
     trade(t, outcome, n, a, b, sa, sb, held_a, held_b)
+}
+
+// The session between two different nodes of the table: refused with 5 or 6, or done.
+fn meet(t: &mut [u32], a: usize, b: usize, ca: u32, cb: u32, outcome: u8) -> Reply
+    requires { ⌜ Sound (now t) × (a < count (now t)) × (b < count (now t)) × (a ≡ b → ⊥) ⌝ }
+    ensures { λ r. ⌜ (r ≡ replied (given (clockBack (now (t .entry)) (Action.Session a b ca cb outcome)) 5 (given (noRoom (now (t .entry)) (Action.Session a b ca cb outcome)) 6 0)) (reported (now (t .entry)) (Action.Session a b ca cb outcome))) × (now (t .exit) ≡ unless (given (clockBack (now (t .entry)) (Action.Session a b ca cb outcome)) 5 (given (noRoom (now (t .entry)) (Action.Session a b ca cb outcome)) 6 0)) (acted (now (t .entry)) (Action.Session a b ca cb outcome)) (now (t .entry))) ⌝ }
+{
+    if ca < own_of(t, a) {
+        return Reply::Refused { number: 5 };
+    }
+    if cb < own_of(t, b) {
+        return Reply::Refused { number: 5 };
+    }
+    let n = nodes_of(t);
+    let sa = opening(t, a, n, ca);
+    let sb = opening(t, b, n, cb);
+    exchange(t, outcome, n, a, b, sa, sb)
+}
+
+// A session on a sound table, refused with 2 to 6 or done.
+pub fn session(t: &mut [u32], a: u8, b: u8, ca: u32, cb: u32, outcome: u8) -> Reply
+    requires { ⌜ Sound (now t) ⌝ }
+    ensures { λ r. ⌜ (r ≡ reply (now (t .entry)) (Action.Session a b ca cb outcome)) × (now (t .exit) ≡ after (now (t .entry)) (Action.Session a b ca cb outcome)) ⌝ }
+{
+    if 3 < outcome {
+        return Reply::Refused { number: 2 };
+    }
+    let n = nodes_of(t);
+    let p = a as usize;
+    let q = b as usize;
+    if n <= p {
+        return Reply::Refused { number: 3 };
+    }
+    if n <= q {
+        return Reply::Refused { number: 3 };
+    }
+    if p == q {
+        return Reply::Refused { number: 4 };
+    }
+    meet(t, p, q, ca, cb, outcome)
 }
