@@ -5,7 +5,7 @@ use Prim.Native.Nat.{ℕ, zero, suc, _+_, _-_, _*_, _≤_, _<_}
 use native.Mathlib.Nat.{add-zero}
 use native.Mathlib.Numerals.{towards-suc}
 use native.Mathlib.Omega.{arith}
-use lib.ListN.{length, getD, set, take, drop, replicate, length-set, length-append, length-replicate}
+use lib.ListN.{length, getD, set, take, drop, replicate, length-set, length-take, length-append, length-replicate}
 use lib.Seq.{take-suc, take-take, drop-cons}
 use Rattle.meaning.specs.declared.Record.{Record}
 use Rattle.meaning.specs.Rows.{recordAt, records, words, above}
@@ -245,3 +245,17 @@ module _ (t : List ℕ) (s : Sound t) (p : ℕ) (h : p < count t) where
 
       row-summary : (v : List ℕ) → length v ≡ tableWords → part (summaryAt p) (count t) v ≡ part (summaryAt p) (count t) t → place (summaryAt p) (node t p .summary) v ≡ v
       row-summary v lv e = let g = high in summary-same t p v (put-row-same (summaryAt p) v lv (omega arith) e)
+
+  -- Both rows put, the log as it was
+  pub settle-put : (x : Node) → x .log ≡ node t p .log → place (summaryAt p) (x .summary) (place (acksAt p) (x .acks) t) ≡ putNode p x t
+  settle-put x e =
+      let r = room in
+      sym
+      (put-grown [] (omega arith) x (e ∙ sym (append-nil (node t p .log))) ∙
+      ap (λ (u : List ℕ). place (summaryAt p) (x .summary) (place (acksAt p) (x .acks) u)) grown-none)
+
+-- a beginning as long as asked for says how long the list is at least
+pub long-enough : (n : ℕ) (xs : List ℕ) → length (take n xs) ≡ n → n ≤ length xs
+long-enough n xs h =
+    let l = length-take n xs in
+    omega arith

@@ -9,7 +9,7 @@ use native.Mathlib.Omega.{arith}
 use native.Mathlib.Decide.{decLe, decLt}
 use borrow.Author.Tests.{le-ltb, lt-ltb, le-leb, lt-leb}
 use lib.ListN.{length, getD, take, drop, length-append, List·getD-append}
-use lib.Seq.{ext-getD, getD-append-add, getD-append-seam, getD-take, getD-at, take-suc}
+use lib.Seq.{ext-getD, getD-append-add, getD-append-seam, getD-take, getD-at, take-suc, length-take-le}
 use lib.Dec.{leb, ltb}
 use Rattle.meaning.specs.declared.Record.{Record}
 use Rattle.meaning.specs.Rows.{every, keep, keepIf, least, raise, covers, newer, above, recordAt, records, words}
@@ -278,3 +278,13 @@ newer-one-is s r b e = rw e
 pub above-one-is : (limit : ℕ) (r : Record) (b : Bool) → not (leb (r .timestamp) limit) ≡ b → above limit (r ∷ []) ≡ keepIf b r []
 unfolding above keep
 above-one-is limit r b e = rw e
+
+-- the first rows of a log
+pub records-take : (i k : ℕ) (w : List ℕ) → i ≤ k → take i (records k w) ≡ records i w
+records-take i k w h =
+    let a = length-records k w in
+    let b = length-records i w in
+    let l = length-take-le i (records k w) (omega arith) in
+    ext-getD noRecord (take i (records k w)) (records i w) (omega arith)
+    (λ j g.
+    getD-take i (records k w) j noRecord (omega arith) ∙ getD-records k w j (omega arith) ∙ sym (getD-records i w j (omega arith)))

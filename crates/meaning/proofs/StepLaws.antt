@@ -1,12 +1,13 @@
 -- Laws of steps: what an accepted step is known to meet, the node that each action leaves, and that a sound table stays sound.
 use mathlib.Core.Path.{_≡_, refl, sym, ap, _∙_}
 use mathlib.Core.Bool.{Bool, true, false, not, _&&_, _||_, false≢true, true≢false, and-true}
-use mathlib.Core.List.{List, [], _∷_, _++_}
+use mathlib.Core.List.{List, [], _∷_, _++_, append-nil}
 use Prim.Native.Nat.{ℕ, zero, suc, _+_, _-_, _*_, _≤_, _<_, max}
 use native.Mathlib.Decide.{ℕ-discrete}
 use native.Mathlib.Omega.{arith}
 use borrow.Author.Tests.{leb-true, leb-false, ltb-true, ltb-false, eqb-false, le-leb, lt-ltb, not-false}
-use lib.ListN.{length, getD, set, replicate, length-set, length-append, length-replicate, getD-replicate}
+use lib.Seq.{take-at}
+use lib.ListN.{length, getD, set, take, replicate, length-set, length-append, length-replicate, getD-replicate}
 use lib.Dec.{leb, ltb, eqb}
 use Rattle.meaning.specs.declared.Record.{Record}
 use Rattle.meaning.specs.declared.Action.{Action}
@@ -17,8 +18,8 @@ use Rattle.meaning.specs.Rows.{given, keep, raise, least, newer, above, 
 use Rattle.meaning.specs.Table.{Node, tableWords, nodesMost, logMost, heldAt, logAt, part, count, held, node, putNode, fresh, recordSound, sound}
 use Rattle.meaning.specs.Node.{own, wrote, opened, finished, ended, purged}
 use Rattle.meaning.specs.Steps.{finishesA, finishesB, outcomeAbove, nodeAbsent, nodeTwice, clockBack, overfull, noRoom, refusal, acted, reported, reply, after}
-use Rattle.meaning.proofs.RowLaws.{all, all-append, all-keep, length-keep, and-both, length-raise}
-use Rattle.meaning.proofs.TableLaws.{Sound, Shaped, sound-facts, facts-sound, sound-put, node-shaped, node-same, node-other, put-count, put-long, put-held-other}
+use Rattle.meaning.proofs.RowLaws.{all, all-append, all-keep, length-keep, and-both, length-raise, length-records, records-take}
+use Rattle.meaning.proofs.TableLaws.{Sound, Shaped, sound-facts, facts-sound, sound-put, node-shaped, node-same, node-other, put-count, put-held-other, held-log}
 
 -- Refusals in order: none is given only where no test passes
 given-none : (b : Bool) (k rest : ℕ) → given b (suc k) rest ≡ 0 → (b ≡ false) × (rest ≡ 0)
@@ -343,3 +344,62 @@ purge-refusal t s p = refusal-sound t s (Purge p)
 pub unsound-refusal : (t : List ℕ) (x : Action) → sound t ≡ false → refusal t x ≡ 1
 unfolding refusal
 unsound-refusal t x h = rw h
+
+-- A log that has grown still begins with what it held
+pub log-begins : (u : List ℕ) (q k : ℕ) (l more : List Record) → node u q .log ≡ l ++ more → length l ≡ k → records k (part (logAt q) (4 * logMost) u) ≡ l
+unfolding node
+log-begins u q k l more e h =
+    let a = ap length e ∙ length-append l more in
+    let b = length-records (held u q) (part (logAt q) (4 * logMost) u) in
+    sym (records-take k (held u q) (part (logAt q) (4 * logMost) u) (omega arith)) ∙ ap (take k) e ∙ take-at l more k h
+
+abbrev pub taken : Bool → Node → Node → List Record
+taken true mine theirs = newer (mine .summary) (theirs .log)
+taken false mine theirs = []
+
+pub ended-log : (f : Bool) (x y : Node) → ended f x y .log ≡ x .log ++ taken f x y
+unfolding finished
+ended-log true x y = refl
+ended-log false x y = sym (append-nil (x .log))
+
+-- The table after one side, for any two nodes that fit it
+module _ (t : List ℕ) (s : Sound t) (p q : ℕ) (hp : p < count t) (hq : q < count t) (other : q ≡ p → ⊥) (x y : Node)
+    (fx : Shaped (count t) x) (fy : Shaped (count t) y) (f : Bool) (room : overfull f x y ≡ false)
+    (lx : x .log ≡ node t p .log) (ly : y .log ≡ node t q .log) where
+  fits : Shaped (count t) (ended f x y)
+  fits = ended-shaped (count t) x fx y fy f room
+
+  low′ : p < nodesMost
+  low′ = let h = s .high in omega arith
+
+  abbrev pub once : List ℕ
+  once = putNode p (ended f x y) t
+
+  pub once-sound : Sound once
+  once-sound =
+      sound-put t s p hp (ended f x y) fits
+      (ended-right (count t) x y f (ap (all (recordSound (count t))) lx ∙ s .right p hp) (ap (all (recordSound (count t))) ly ∙ s .right q hq))
+
+  pub once-count : count once ≡ count t
+  once-count = put-count t (s .long) (count t) (s .high) p low′ (ended f x y) fits (s .room p hp)
+
+  pub once-held : held once q ≡ held t q
+  once-held = put-held-other t (s .long) (count t) (s .high) p low′ (ended f x y) fits (s .room p hp) q (let h = s .high in omega arith) other
+
+  pub once-log : node once q .log ≡ node t q .log
+  once-log =
+      ap (λ (z : Node). z .log) (node-other t (s .long) (count t) (s .high) p low′ (ended f x y) fits (s .room p hp) refl q (let h = s .high in omega arith) other)
+
+  pub once-began : (k : ℕ) → k ≡ held t p → records k (part (logAt p) (4 * logMost) once) ≡ node t p .log
+  once-began k e =
+      log-begins once p k (node t p .log) (taken f x y)
+      (ap (λ (z : Node). z .log) (node-same t (s .long) (count t) (s .high) p low′ (ended f x y) fits (s .room p hp) refl) ∙ ended-log f x y ∙ ap (λ (l : List Record). l ++ taken f x y) lx)
+      (sym (held-log t p) ∙ sym e)
+
+-- The refusals of a session on a sound table
+pub session-refusal :
+    (t : List ℕ) → Sound t → (a b ca cb o : ℕ) →
+    refusal t (Session a b ca cb o) ≡
+    given (ltb 3 o) 2 (given (leb (count t) a || leb (count t) b) 3 (given (eqb a b) 4 (given (clockBack t (Session a b ca cb o)) 5 (given (noRoom t (Session a b ca cb o)) 6 0))))
+unfolding outcomeAbove nodeAbsent nodeTwice
+session-refusal t s a b ca cb o = refusal-sound t s (Session a b ca cb o)

@@ -1,5 +1,69 @@
 // The lent table: a fresh one, and one step applied. Document 01, "The table" and "The three actions".
-// The entry points take any words at all; what a module below them requires, they have shown.
+// The entry points, `fresh` and `apply`, take any words at all; what a module below them requires, they have shown.
 pub mod look;
 pub mod purge;
+pub mod session;
 pub mod write;
+
+ghost use mathlib.Core.Path.{_≡_};
+ghost use Rattle.meaning.specs.Table.{freshRefusal, madeFresh};
+ghost use Rattle.meaning.specs.Steps.{reply, after};
+ghost use Rattle.meaning.proofs.TableLaws.{Sound};
+use meaning::Action;
+use meaning::Reply;
+use meaning::Step;
+use rows::row::clear;
+use rows::row::put_word;
+
+// "A fresh table has its count set and every other word zero. Making one is refused with 1, the lent words unchanged, if the count or the
+// length is wrong."
+pub fn fresh(t: &mut [u32], n: u32) -> u32
+    ensures { λ r. ⌜ (r ≡ freshRefusal (now (t .entry)) n) × (now (t .exit) ≡ madeFresh (now (t .entry)) n) ⌝ }
+{
+    if n < 2 {
+        return 1;
+    }
+    if 16 < n {
+        return 1;
+    }
+    if t.len() != layout::TABLE_WORDS {
+        return 1;
+    }
+    clear(t);
+    put_word(t, layout::COUNT_AT, n);
+    0
+}
+
+// One action on a table that is known to be sound: what `apply` does after its scan, and what a run from a fresh table does at every step.
+pub fn apply_sound(t: &mut [u32], action: Action) -> Reply
+    requires { ⌜ Sound (now t) ⌝ }
+    ensures { λ r. ⌜ (r ≡ reply (now (t .entry)) action) × (now (t .exit) ≡ after (now (t .entry)) action) ⌝ }
+{
+    match action {
+        Action::Write {
+            node,
+            timestamp,
+            block,
+            verdict,
+        } => write::write(t, node, timestamp, block, verdict),
+        Action::Session {
+            a,
+            b,
+            ca,
+            cb,
+            outcome,
+        } => session::session(t, a, b, ca, cb, outcome),
+        Action::Purge { node } => purge::purge(t, node),
+    }
+}
+
+// One step on any words at all: the refusal number, or what the step reports; a refusal changes no word.
+pub fn apply(t: &mut [u32], step: Step) -> Reply
+    ensures { λ r. ⌜ (r ≡ reply (now (t .entry)) (step .action)) × (now (t .exit) ≡ after (now (t .entry)) (step .action)) ⌝ }
+{
+    if !soundness::is_sound(t) {
+        return Reply::Refused { number: 1 };
+    }
+    let action = step.action;
+    apply_sound(t, action)
+}
