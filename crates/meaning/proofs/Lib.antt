@@ -16,3 +16,4 @@ pub mod AccountRises
 pub mod AccountJournals
 pub mod VerdictLaws
 pub mod VerdictTheorems
+pub mod OneReply

@@ -1,14 +1,14 @@
 -- Laws about soundness: a test at every number, a log's greatest origin and verdict, and where a record of a log stands in the table.
 use mathlib.Core.Path.{_≡_, refl, sym, ap, _∙_}
-use mathlib.Core.Bool.{Bool, true, false, _&&_, and-false}
+use mathlib.Core.Bool.{Bool, true, false, _&&_}
 use mathlib.Core.List.{List}
 use Prim.Native.Nat.{ℕ, zero, suc, _+_, _*_, _<_, _≤_, max}
-use native.Mathlib.Nat.{max-le, suc-max-suc, le-max-left, le-max-right}
+use native.Mathlib.Nat.{max-le, suc-max-suc}
 use native.Mathlib.Numerals.{add-one}
 use native.Mathlib.Omega.{arith}
-use borrow.Author.Tests.{ltb-true, ltb-false, lt-ltb, eq-eqb, ne-eqb, leb-true, leb-false, le-leb, lt-leb}
+use borrow.Author.Tests.{lt-ltb, eq-eqb, ne-eqb, leb-true, leb-false, le-leb, lt-leb}
 use lib.ListN.{length, getD, take, drop}
-use lib.Seq.{getD-take, getD-drop}
+use lib.Seq.{getD-take}
 use lib.Dec.{leb, ltb}
 use Rattle.meaning.specs.Rows.{every, recordAt}
 use Rattle.meaning.proofs.RowLaws.{every-at, recordAt-agree}

@@ -1,14 +1,14 @@
 -- Laws of the verdict count, record by record, as the code counts. Document 01, "Verdict count".
 use mathlib.Core.Path.{_≡_, refl, sym, ap, _∙_}
-use mathlib.Core.Bool.{Bool, true, false, not, _&&_, _||_, cond, or-true}
-use mathlib.Core.List.{List, [], _∷_, _++_}
-use Prim.Native.Nat.{ℕ, zero, suc, _+_, _-_, _*_, _/_, _%_, _<_, _≤_}
+use mathlib.Core.Bool.{Bool, true, false, not, cond}
+use mathlib.Core.List.{List, [], _∷_}
+use Prim.Native.Nat.{ℕ, _+_, _-_, _*_, _/_, _%_, _<_, _≤_}
 use native.Mathlib.Numerals.{add-one}
 use native.Mathlib.Omega.{arith}
 use borrow.Author.Tests.{le-ltb, lt-ltb, eq-eqb, ne-eqb, le-leb, lt-leb}
 use lib.ListN.{length, getD, take, drop, length-append, length-take, length-drop}
 use lib.Seq.{getD-take}
-use lib.Dec.{leb, ltb, eqb}
+use lib.Dec.{leb, ltb}
 use Rattle.meaning.specs.declared.Record.{Record}
 use Rattle.meaning.specs.declared.Class.{Class}
 use Rattle.meaning.specs.declared.Class.the-variants.{NotRead, PageCache, PlatterGood, PlatterBad, Repaired, Reserved}
@@ -30,7 +30,7 @@ use Rattle.meaning.specs.Verdicts.{
 }
 use Rattle.meaning.proofs.RowLaws.{all, and-right, and-both, and-left, every-records, keep-append, keep-one, length-keep, length-records, records-agree}
 use Rattle.meaning.proofs.SoundLaws.{every-none, every-last, every-not}
-use Rattle.meaning.proofs.TableLaws.{Sound, sound-facts}
+use Rattle.meaning.proofs.TableLaws.{sound-facts}
 
 -- The class of a byte, found by its upper end where the lower ones were passed
 pub class-1 : (v : ℕ) → v ≤ 0x0f → NotRead ≡ classOf v
