@@ -14,3 +14,6 @@ pub mod Demand3
 pub mod AccountCorollaries
 pub mod AccountRises
 pub mod AccountJournals
+pub mod VerdictLaws
+pub mod VerdictTheorems
+pub mod OneReply
