@@ -14,3 +14,4 @@ pub mod Demand3
 pub mod AccountCorollaries
 pub mod AccountRises
 pub mod AccountJournals
+pub mod FrameLaws

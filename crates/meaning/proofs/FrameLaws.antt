@@ -1,0 +1,140 @@
+-- Laws of a line's digits, bytes, sum and numbers, for whoever reads or writes frames.
+use mathlib.Core.Path.{_≡_, refl, sym, _∙_, ap}
+use mathlib.Core.Bool.{Bool, true, false, not, _&&_, cond}
+use mathlib.Core.List.{List, [], _∷_, _++_}
+use Prim.Native.Nat.{ℕ, zero, suc, _+_, _-_, _*_, _/_, _%_, _^_, _≤_, _<_}
+use native.Mathlib.Omega.{arith}
+use native.Mathlib.Numerals.{add-one}
+use native.Mathlib.Nat.{pow-suc, mul-assoc, mul-le-mul-right}
+use lib.ListN.{length, getD, take, drop, length-append, length-take, length-drop}
+use lib.Seq.{take-suc, drop-cons, getD-drop}
+use lib.Dec.{leb, ltb, eqb}
+use borrow.Author.Tests.{ltb-true, ltb-false, lt-ltb, le-ltb, le-leb, lt-leb, leb-true, eq-eqb, ne-eqb}
+use Rattle.meaning.specs.Frames.{digitValue, digit, spelled, bytesOf, allDigits, total, number, highFirst}
+
+-- both tests of a conjunction pass
+pub and-left : (a b : Bool) → a && b ≡ true → a ≡ true
+and-left true b p = refl
+and-left false b p = p
+
+pub and-right : (a b : Bool) → a && b ≡ true → b ≡ true
+and-right true b p = p
+and-right false b p = cc
+
+-- a digit's number, and 16 for any other character
+pub digit-decimal : (c : ℕ) → 48 ≤ c → c ≤ 57 → digitValue c ≡ c - 48
+unfolding digitValue
+digit-decimal c p q = cc (le-leb 48 c p, le-leb c 57 q)
+
+pub digit-letter : (c : ℕ) → 65 ≤ c → c ≤ 70 → digitValue c ≡ c - 55
+unfolding digitValue
+digit-letter c p q = cc (le-leb 48 c (omega arith), lt-leb c 57 (omega arith), le-leb 65 c p, le-leb c 70 q)
+
+pub digit-none : (c : ℕ) → (48 ≤ c → c ≤ 57 → ⊥) → (65 ≤ c → c ≤ 70 → ⊥) → digitValue c ≡ 16
+unfolding digitValue
+digit-none c p q = go (leb 48 c) (leb c 57) (leb 65 c) (leb c 70) refl refl refl refl
+  where
+    go : (a b d e : Bool) → leb 48 c ≡ a → leb c 57 ≡ b → leb 65 c ≡ d → leb c 70 ≡ e → cond (a && b) (c - 48) (cond (d && e) (c - 55) 16) ≡ 16
+    go true true d e h1 h2 h3 h4 = absurd (p (leb-true 48 c h1) (leb-true c 57 h2))
+    go true false true true h1 h2 h3 h4 = absurd (q (leb-true 65 c h3) (leb-true c 70 h4))
+    go true false true false h1 h2 h3 h4 = refl
+    go true false false e h1 h2 h3 h4 = refl
+    go false b true true h1 h2 h3 h4 = absurd (q (leb-true 65 c h3) (leb-true c 70 h4))
+    go false b true false h1 h2 h3 h4 = refl
+    go false b false e h1 h2 h3 h4 = refl
+
+-- two digits a byte
+pub length-bytesOf : (l : List ℕ) → length (bytesOf l) ≡ length l / 2
+unfolding bytesOf
+length-bytesOf [] = refl
+length-bytesOf (h ∷ []) = refl
+length-bytesOf (h ∷ (c ∷ cs)) = omega (arith, length-bytesOf cs)
+
+pub byte-at : (l : List ℕ) (k : ℕ) → k < length (bytesOf l) → getD (bytesOf l) k 0 ≡ 16 * digitValue (getD l (2 * k) 0) + digitValue (getD l (2 * k + 1) 0)
+unfolding bytesOf
+byte-at [] k h = absurd (omega arith)
+byte-at (h ∷ []) k p = absurd (omega arith)
+byte-at (h ∷ (c ∷ cs)) zero p = refl
+byte-at (h ∷ (c ∷ cs)) (suc k) p =
+    let odd : 2 * suc k + 1 ≡ suc (suc (2 * k + 1)) = omega arith in
+    let even : 2 * suc k ≡ suc (suc (2 * k)) = omega arith in
+    rw (odd, even) (byte-at cs k (omega arith))
+
+-- every character of a line is a digit exactly if the test says so
+pub digits-cons : (c : ℕ) (cs : List ℕ) → allDigits (c ∷ cs) ≡ true → (digitValue c < 16) × (allDigits cs ≡ true)
+unfolding allDigits
+digits-cons c cs p =
+    (ltb-true (digitValue c) 16 (and-left (ltb (digitValue c) 16) (allDigits cs) p), and-right (ltb (digitValue c) 16) (allDigits cs) p)
+
+pub digits-at : (l : List ℕ) (i : ℕ) → allDigits l ≡ true → i < length l → digitValue (getD l i 0) < 16
+digits-at [] i p h = absurd (omega arith)
+digits-at (c ∷ cs) zero p h = digits-cons c cs p .0
+digits-at (c ∷ cs) (suc i) p h = digits-at cs i (digits-cons c cs p .1) (omega arith)
+
+pub digits-all : (l : List ℕ) → ((i : ℕ) → i < length l → digitValue (getD l i 0) < 16) → allDigits l ≡ true
+unfolding allDigits
+digits-all [] p = refl
+digits-all (c ∷ cs) p = cc (lt-ltb (digitValue c) 16 (p 0 (omega arith)), digits-all cs (λ i h. p (suc i) (omega arith)))
+
+pub stray : (l : List ℕ) (i : ℕ) → i < length l → 16 ≤ digitValue (getD l i 0) → allDigits l ≡ false
+stray l i h p = go (allDigits l) refl
+  where
+    go : (b : Bool) → allDigits l ≡ b → b ≡ false
+    go true e = absurd (omega (arith, digits-at l i e h))
+    go false e = refl
+
+-- numbers below 256
+abbrev pub Bytes : List ℕ → Type 0
+Bytes [] = Unit
+Bytes (b ∷ bs) = (b < 256) × Bytes bs
+
+pub bytes-take : (k : ℕ) (bs : List ℕ) → Bytes bs → Bytes (take k bs)
+bytes-take zero bs p = tt
+bytes-take (suc k) [] p = tt
+bytes-take (suc k) (b ∷ bs) p = (p .0, bytes-take k bs (p .1))
+
+pub bytes-drop : (k : ℕ) (bs : List ℕ) → Bytes bs → Bytes (drop k bs)
+bytes-drop zero bs p = p
+bytes-drop (suc k) [] p = tt
+bytes-drop (suc k) (b ∷ bs) p = bytes-drop k bs (p .1)
+
+pub bytes-append : (xs ys : List ℕ) → Bytes xs → Bytes ys → Bytes (xs ++ ys)
+bytes-append [] ys p q = q
+bytes-append (x ∷ xs) ys p q = (p .0, bytes-append xs ys (p .1) q)
+
+pub bytes-of : (l : List ℕ) → allDigits l ≡ true → Bytes (bytesOf l)
+unfolding bytesOf
+bytes-of [] p = tt
+bytes-of (h ∷ []) p = tt
+bytes-of (h ∷ (c ∷ cs)) p =
+    let x = digits-cons h (c ∷ cs) p in
+    let y = digits-cons c cs (x .1) in
+    (omega arith, bytes-of cs (y .1))
+
+-- the wrapped sum
+pub total-append : (xs ys : List ℕ) → total (xs ++ ys) ≡ (total xs + total ys) % 256
+unfolding total
+total-append [] [] = refl
+total-append [] (y ∷ ys) = omega arith
+total-append (x ∷ xs) ys = omega (arith, total-append xs ys)
+
+pub total-below : (bs : List ℕ) → total bs < 256
+unfolding total
+total-below [] = omega arith
+total-below (b ∷ bs) = omega arith
+
+-- high byte first
+pub number-snoc : (bs : List ℕ) (b : ℕ) → number (bs ++ (b ∷ [])) ≡ number bs * 256 + b
+unfolding number
+number-snoc [] b = omega arith
+number-snoc (x ∷ bs) b =
+    let one : length (bs ++ (b ∷ [])) ≡ suc (length bs) = length-append bs (b ∷ []) ∙ add-one (length bs) in
+    let high : x * 256 ^ length (bs ++ (b ∷ [])) ≡ x * 256 ^ length bs * 256 = rw (one, pow-suc) (sym (mul-assoc x (256 ^ length bs) 256)) in
+    omega (arith, number-snoc bs b)
+
+pub number-below : (bs : List ℕ) → Bytes bs → number bs < 256 ^ length bs
+unfolding number
+number-below [] p = omega arith
+number-below (x ∷ bs) p =
+    let low : x ≤ 255 = omega (arith, p .0) in
+    rw pow-suc (omega (arith, number-below bs (p .1), mul-le-mul-right (256 ^ length bs) low))
