@@ -1,19 +1,22 @@
 -- Laws of the reader's inner definitions: a pair of digits, the scan, a field.
 use mathlib.Core.Path.{_≡_, refl, sym, _∙_, ap}
-use mathlib.Core.Bool.{Bool, true, false, _&&_, cond}
+use mathlib.Core.Bool.{Bool, true, false, not, _&&_, cond}
 use mathlib.Core.List.{List, [], _∷_, _++_}
-use Prim.Native.Nat.{ℕ, suc, _+_, _-_, _*_, _/_, _%_, _^_, _≤_, _<_}
+use Prim.Native.Nat.{ℕ, _+_, _-_, _*_, _/_, _%_, _^_, _≤_, _<_}
 use native.Mathlib.Omega.{arith}
 use native.Mathlib.Numerals.{add-one}
 use native.Mathlib.Nat.{pow-le-pow-right}
 use lib.ListN.{length, getD, take, drop, length-drop}
-use lib.Seq.{take-suc, take-all, getD-drop, length-take-le}
-use lib.Dec.{ltb, eqb}
-use borrow.Author.Tests.{ltb-true, ltb-false, lt-ltb, le-ltb, eqb-true, eq-eqb, ne-eqb}
+use lib.Seq.{take-suc, take-all, getD-drop, length-take-le, drop-drop}
+use lib.Dec.{leb, ltb, eqb}
+use borrow.Author.Tests.{ltb-true, ltb-false, lt-ltb, le-ltb, leb-true, le-leb, eqb-true, eq-eqb, ne-eqb}
 use borrow.Author.Count.{below-more}
-use Rattle.meaning.specs.Frames.{digitValue, bytesOf, allDigits, total, number}
-use Rattle.meaning.proofs.FrameLaws.{and-left, and-right, length-bytesOf, byte-at, digits-at, digits-all, stray, Bytes, bytes-take, bytes-drop, bytes-of, total-append, total-below, number-snoc, number-below}
-use Rattle.frames.specs.Fields.{pairAt, oddStray, scanned, fieldAt, Within}
+use Rattle.meaning.specs.declared.Line.the-variants.{Begin, Act, Refused}
+use Rattle.meaning.specs.Rows.{given}
+use Rattle.meaning.specs.Table.{countRight}
+use Rattle.meaning.specs.Frames.{digitValue, bytesOf, allDigits, total, number, widths, digitsOf, unpacked, actionOf, lineKind, lineFields, lineRefusal, readLine}
+use Rattle.meaning.proofs.FrameLaws.{and-left, and-right, length-bytesOf, byte-at, digits-at, digits-all, stray, bytes-take, bytes-drop, bytes-of, total-append, total-below, number-snoc, number-below, refused-stray, refused-empty, refused-length, refusal-whole, read-refused, read-begin, read-act}
+use Rattle.frames.specs.Fields.{pairAt, oddStray, scanned, fieldAt, Whole, lengthOf, writeAt, sessionAt, purgeAt, startAt, startOf, outcomeAt}
 
 abbrev Digit : List ℕ → ℕ → Type 0
 Digit l i = digitValue (getD l i 0) < 16
@@ -142,3 +145,164 @@ field-end l at k width v e p q = (rw (← e) p, rw (← e) q)
 -- what stands in less than four bytes
 pub below-four : (v k : ℕ) → v < 256 ^ k → k ≤ 3 → v < 16777216
 below-four v k h p = omega (arith, pow-le-pow-right {n = 256} (omega arith) p)
+
+-- the digits of a kind
+pub length-unknown : (kind : ℕ) → 4 ≤ kind → 0 ≡ lengthOf kind
+unfolding lengthOf
+length-unknown kind h = cc (le-ltb kind 4 h)
+
+pub whole-at : (l : List ℕ) (kind k : ℕ) → Whole l kind → kind ≡ k → length l ≡ digitsOf k
+whole-at l kind k w e = w .long ∙ ap digitsOf e
+
+-- the first byte is the kind
+pub kind-field : (l : List ℕ) → fieldAt l 0 1 ≡ lineKind (bytesOf l)
+unfolding fieldAt lineKind number
+kind-field l = go (bytesOf l)
+  where
+    go : (bs : List ℕ) → number (take 1 bs) ≡ getD bs 0 0
+    go [] = refl
+    go (b ∷ bs) = omega arith
+
+-- a line's fields, each by its place
+fieldsFrom : List ℕ → ℕ → List ℕ → List ℕ
+fieldsFrom [] at l = []
+fieldsFrom (w ∷ ws) at l = fieldAt l at w ∷ fieldsFrom ws (at + w) l
+
+fields-from : (ws : List ℕ) (at : ℕ) (l : List ℕ) → unpacked ws (drop at (bytesOf l)) ≡ fieldsFrom ws at l
+unfolding unpacked fieldsFrom fieldAt
+fields-from [] at l = refl
+fields-from (w ∷ ws) at l = cc (drop-drop w at (bytesOf l), fields-from ws (at + w) l)
+
+line-fields : (l : List ℕ) (k : ℕ) → lineKind (bytesOf l) ≡ k → lineFields (bytesOf l) ≡ fieldsFrom (widths k) 1 l
+unfolding lineFields
+line-fields l k e = rw e (fields-from (widths k) 1 l)
+
+pub action-write : (l : List ℕ) (kind : ℕ) → lineKind (bytesOf l) ≡ kind → kind ≡ 1 → writeAt l ≡ actionOf kind (lineFields (bytesOf l))
+unfolding actionOf fieldsFrom widths
+action-write l kind p q = rw (q, line-fields l 1 (p ∙ q)) refl
+
+pub action-session : (l : List ℕ) (kind : ℕ) → lineKind (bytesOf l) ≡ kind → kind ≡ 2 → sessionAt l ≡ actionOf kind (lineFields (bytesOf l))
+unfolding actionOf fieldsFrom widths
+action-session l kind p q = rw (q, line-fields l 2 (p ∙ q)) refl
+
+pub action-purge : (l : List ℕ) (kind : ℕ) → lineKind (bytesOf l) ≡ kind → kind ≡ 3 → purgeAt l ≡ actionOf kind (lineFields (bytesOf l))
+unfolding actionOf fieldsFrom widths
+action-purge l kind p q = rw (q, line-fields l 3 (p ∙ q)) refl
+
+pub outcome-some : (l : List ℕ) (kind : ℕ) → kind ≡ 2 → fieldAt l 11 1 ≡ outcomeAt l kind
+unfolding outcomeAt
+outcome-some l kind p = cc
+
+pub outcome-none : (l : List ℕ) (kind : ℕ) → (kind ≡ 2 → ⊥) → 0 ≡ outcomeAt l kind
+unfolding outcomeAt
+outcome-none l kind p = cc (ne-eqb kind 2 p)
+
+pub start-begin : (l : List ℕ) (n : ℕ) → n ≡ fieldAt l 1 1 → 2 ≤ n → n ≤ 16 → Begin n ≡ startAt l
+unfolding startOf
+start-begin l n e p q = go ∙ ap startOf e
+  where
+    go : Begin n ≡ startOf n
+    go = rw (startOf, le-leb 2 n p, le-leb n 16 q) refl
+
+pub start-refused : (l : List ℕ) (n : ℕ) → n ≡ fieldAt l 1 1 → (2 ≤ n → n ≤ 16 → ⊥) → Refused 15 ≡ startAt l
+unfolding startOf
+start-refused l n e p = go (leb 2 n) (leb n 16) refl refl ∙ ap startOf e
+  where
+    go : (a b : Bool) → leb 2 n ≡ a → leb n 16 ≡ b → Refused 15 ≡ startOf n
+    go true true x y = absurd (p (leb-true 2 n x) (leb-true n 16 y))
+    go true false x y = rw (startOf, x, y) refl
+    go false b x y = rw (startOf, x) refl
+
+-- what the scan's answer tells of a line
+pub scanned-high : (l : List ℕ) (sum : ℕ) → sum ≡ scanned l → 255 < sum → allDigits l ≡ false
+unfolding scanned
+scanned-high l sum e h = go (allDigits l) refl
+  where
+    go : (b : Bool) → allDigits l ≡ b → b ≡ false
+    go false p = refl
+    go true p = let low : sum ≡ total (bytesOf l) = cc in absurd (omega (arith, total-below (bytesOf l)))
+
+pub scanned-low : (l : List ℕ) (sum : ℕ) → sum ≡ scanned l → sum ≤ 255 → (allDigits l ≡ true) × (sum ≡ total (bytesOf l))
+unfolding scanned
+scanned-low l sum e h = go (allDigits l) refl
+  where
+    go : (b : Bool) → allDigits l ≡ b → (allDigits l ≡ true) × (sum ≡ total (bytesOf l))
+    go true p = (p, cc)
+    go false p = let high : sum ≡ 256 = cc in absurd (omega arith)
+
+-- the reader's answers, in the order of the refusals
+module _ (line : ℕ) (l : List ℕ) where
+  pub line-stray : (sum : ℕ) → sum ≡ scanned l → 255 < sum → Refused 12 ≡ readLine line l
+  line-stray sum e h = read-refused line 11 l (refused-stray l (scanned-high l sum e h))
+
+  pub line-empty : (sum : ℕ) → sum ≡ scanned l → sum ≤ 255 → length l < 2 → Refused 11 ≡ readLine line l
+  line-empty sum e h p = read-refused line 10 l (refused-empty l (scanned-low l sum e h .0) p)
+
+  pub line-length : (sum kind : ℕ) → sum ≡ scanned l → sum ≤ 255 → 2 ≤ length l → kind ≡ fieldAt l 0 1 → (length l ≡ lengthOf kind → ⊥) → Refused 11 ≡ readLine line l
+  unfolding lengthOf
+  line-length sum kind e h p k q =
+      let known : kind ≡ lineKind (bytesOf l) = k ∙ kind-field l in
+      read-refused line 10 l (refused-length l (scanned-low l sum e h .0) p (λ x y. q (let t = lt-ltb (lineKind (bytesOf l)) 4 x in cc)))
+
+  pub line-whole : (sum kind : ℕ) → sum ≡ scanned l → sum ≤ 255 → 2 ≤ length l → kind ≡ fieldAt l 0 1 → length l ≡ lengthOf kind → Whole l kind
+  unfolding lengthOf
+  line-whole sum kind e h p k q = go (ltb kind 4) refl
+    where
+      go : (b : Bool) → ltb kind 4 ≡ b → Whole l kind
+      go true t = record { digits = scanned-low l sum e h .0; is = sym (k ∙ kind-field l); long = cc; known = ltb-true kind 4 t }
+      go false t = let none : length l ≡ 0 = cc in absurd (omega arith)
+
+  module _ (kind : ℕ) (w : Whole l kind) where
+    outcome-test : eqb kind 2 && ltb 3 (getD (lineFields (bytesOf l)) 4 0) ≡ ltb 3 (outcomeAt l kind)
+    unfolding outcomeAt widths fieldsFrom
+    outcome-test = go (eqb kind 2) refl
+      where
+        go : (b : Bool) → eqb kind 2 ≡ b → b && ltb 3 (getD (lineFields (bytesOf l)) 4 0) ≡ ltb 3 (cond b (fieldAt l 11 1) 0)
+        go true e = rw (line-fields l 2 (w .is ∙ eqb-true kind 2 e)) refl
+        go false e = refl
+
+    start-test : eqb kind 0 && not (countRight (getD (lineFields (bytesOf l)) 0 0)) ≡ eqb kind 0 && not (countRight (fieldAt l 1 1))
+    unfolding widths fieldsFrom
+    start-test = go (eqb kind 0) refl
+      where
+        go : (b : Bool) → eqb kind 0 ≡ b → b && not (countRight (getD (lineFields (bytesOf l)) 0 0)) ≡ b && not (countRight (fieldAt l 1 1))
+        go true e = rw (line-fields l 0 (w .is ∙ eqb-true kind 0 e)) refl
+        go false e = refl
+
+    -- the tests that are left, by the values that the code has
+    whole-refusal :
+        lineRefusal l ≡
+        given (ltb 3 (outcomeAt l kind)) 11 (given (not (eqb (total (bytesOf l)) 0)) 13 (given (eqb kind 0 && not (countRight (fieldAt l 1 1))) 15 0))
+    whole-refusal =
+        rw (← outcome-test, ← start-test)
+        (rw (w .is) at (refusal-whole l (w .digits) (omega (arith, w .is, w .known)) (w .long ∙ ap digitsOf (sym (w .is)))))
+
+    pub line-outcome : 3 < outcomeAt l kind → Refused 11 ≡ readLine line l
+    line-outcome p = read-refused line 10 l (cc (whole-refusal, lt-ltb 3 (outcomeAt l kind) p))
+
+    module _ (fair : outcomeAt l kind ≤ 3) where
+      pub line-sum : (total (bytesOf l) ≡ 0 → ⊥) → Refused 13 ≡ readLine line l
+      line-sum p = read-refused line 12 l (cc (whole-refusal, le-ltb 3 (outcomeAt l kind) fair, ne-eqb (total (bytesOf l)) 0 p))
+
+      pub line-start : total (bytesOf l) ≡ 0 → kind ≡ 0 → startAt l ≡ readLine line l
+      unfolding startOf widths fieldsFrom
+      line-start p q = go (countRight (fieldAt l 1 1)) refl
+        where
+          first : getD (lineFields (bytesOf l)) 0 0 ≡ fieldAt l 1 1
+          first = rw (line-fields l 0 (w .is ∙ q)) refl
+
+          is0 : lineKind (bytesOf l) ≡ 0
+          is0 = w .is ∙ q
+
+          go : (b : Bool) → countRight (fieldAt l 1 1) ≡ b → startOf (fieldAt l 1 1) ≡ readLine line l
+          go true e =
+              let none : lineRefusal l ≡ 0 = cc (whole-refusal, le-ltb 3 (outcomeAt l kind) fair, eq-eqb (total (bytesOf l)) 0 p, eq-eqb kind 0 q, e) in
+              rw (startOf, e) (rw first at (read-begin line l none is0))
+          go false e =
+              let some : lineRefusal l ≡ 15 = cc (whole-refusal, le-ltb 3 (outcomeAt l kind) fair, eq-eqb (total (bytesOf l)) 0 p, eq-eqb kind 0 q, e) in
+              rw (startOf, e) (read-refused line 14 l some)
+
+      pub line-act : total (bytesOf l) ≡ 0 → (kind ≡ 0 → ⊥) → Act (record { line = line; action = actionOf kind (lineFields (bytesOf l)) }) ≡ readLine line l
+      line-act p q =
+          let none : lineRefusal l ≡ 0 = cc (whole-refusal, le-ltb 3 (outcomeAt l kind) fair, eq-eqb (total (bytesOf l)) 0 p, ne-eqb kind 0 q) in
+          rw (w .is) at (read-act line l none (rw (w .is) q))

@@ -2,8 +2,11 @@
 ghost use mathlib.Core.Path.{_≡_};
 ghost use Prim.Native.Nat.{_+_, _*_, _^_, _≤_, _<_};
 ghost use lib.ListN.{length};
-ghost use Rattle.meaning.specs.Frames.{digitValue};
-ghost use Rattle.frames.specs.Fields.{pairAt, oddStray, scanned, fieldAt, Within};
+ghost use mathlib.Core.Bool.{true};
+ghost use Rattle.meaning.specs.Frames.{digitValue, bytesOf, allDigits, lineFields, actionOf};
+ghost use Rattle.frames.specs.Fields.{pairAt, oddStray, scanned, fieldAt, Within, Whole, lengthOf, writeAt, sessionAt, purgeAt, startAt, outcomeAt};
+use meaning::Action;
+use meaning::Line;
 
 // The number of a hexadecimal digit, 16 where the character is none: "a character is not 0 to 9 or A to F".
 pub(crate) fn digit_value(c: u8) -> u8
@@ -74,4 +77,95 @@ pub(crate) fn field(s: &[u8], at: usize, width: usize) -> u32
         k += 1;
     }
     value
+}
+
+// A field of one byte.
+pub(crate) fn byte(s: &[u8], at: usize) -> u8
+    requires { ⌜ Within (now s) at 1 ⌝ }
+    ensures { λ r. ⌜ r ≡ fieldAt (now (s .entry)) at 1 ⌝ }
+{
+    field(s, at, 1) as u8
+}
+
+// The digits of a kind's line, 0 of an unknown kind, which no line has.
+pub(crate) fn length_of(kind: u8) -> usize
+    ensures { λ r. ⌜ r ≡ lengthOf kind ⌝ }
+{
+    match kind {
+        0 => 6,
+        1 => 24,
+        2 => 26,
+        3 => 6,
+        _ => 0,
+    }
+}
+
+// The write that a line of 24 digits holds.
+fn write_at(s: &[u8]) -> Action
+    requires { ⌜ (allDigits (now s) ≡ true) × (length (now s) ≡ 24) ⌝ }
+    ensures { λ r. ⌜ r ≡ writeAt (now (s .entry)) ⌝ }
+{
+    Action::Write {
+        node: byte(s, 1),
+        timestamp: field(s, 2, 4),
+        block: field(s, 6, 4),
+        verdict: byte(s, 10),
+    }
+}
+
+// The session that a line of 26 digits holds.
+fn session_at(s: &[u8]) -> Action
+    requires { ⌜ (allDigits (now s) ≡ true) × (length (now s) ≡ 26) ⌝ }
+    ensures { λ r. ⌜ r ≡ sessionAt (now (s .entry)) ⌝ }
+{
+    Action::Session {
+        a: byte(s, 1),
+        b: byte(s, 2),
+        ca: field(s, 3, 4),
+        cb: field(s, 7, 4),
+        outcome: byte(s, 11),
+    }
+}
+
+// The purge that a line of 6 digits holds.
+fn purge_at(s: &[u8]) -> Action
+    requires { ⌜ (allDigits (now s) ≡ true) × (length (now s) ≡ 6) ⌝ }
+    ensures { λ r. ⌜ r ≡ purgeAt (now (s .entry)) ⌝ }
+{
+    Action::Purge { node: byte(s, 1) }
+}
+
+// The action of a line, by its kind.
+pub(crate) fn action(s: &[u8], kind: u8) -> Action
+    requires { ⌜ Whole (now s) kind × (0 < kind) ⌝ }
+    ensures { λ r. ⌜ r ≡ actionOf kind (lineFields (bytesOf (now (s .entry)))) ⌝ }
+{
+    match kind {
+        1 => write_at(s),
+        2 => session_at(s),
+        _ => purge_at(s),
+    }
+}
+
+// A session's outcome, 0 for any other kind: "an outcome is above 3".
+pub(crate) fn outcome(s: &[u8], kind: u8) -> u8
+    requires { ⌜ Whole (now s) kind ⌝ }
+    ensures { λ r. ⌜ r ≡ outcomeAt (now (s .entry)) kind ⌝ }
+{
+    match kind {
+        2 => byte(s, 11),
+        _ => 0,
+    }
+}
+
+// The start of a line of 6 digits, 15 where "a start's n is not 2 to 16".
+pub(crate) fn start(s: &[u8]) -> Line
+    requires { ⌜ (allDigits (now s) ≡ true) × (length (now s) ≡ 6) ⌝ }
+    ensures { λ r. ⌜ r ≡ startAt (now (s .entry)) ⌝ }
+{
+    let n = byte(s, 1);
+    match n {
+        2..=16 => Line::Begin { n },
+        _ => Line::Refused { number: 15 },
+    }
 }

@@ -1,16 +1,18 @@
 -- Laws of a line's digits, bytes, sum and numbers, for whoever reads or writes frames.
-use mathlib.Core.Path.{_≡_, refl, sym, _∙_, ap}
+use mathlib.Core.Path.{_≡_, refl, sym, _∙_}
 use mathlib.Core.Bool.{Bool, true, false, not, _&&_, cond}
 use mathlib.Core.List.{List, [], _∷_, _++_}
 use Prim.Native.Nat.{ℕ, zero, suc, _+_, _-_, _*_, _/_, _%_, _^_, _≤_, _<_}
 use native.Mathlib.Omega.{arith}
 use native.Mathlib.Numerals.{add-one}
 use native.Mathlib.Nat.{pow-suc, mul-assoc, mul-le-mul-right}
-use lib.ListN.{length, getD, take, drop, length-append, length-take, length-drop}
-use lib.Seq.{take-suc, drop-cons, getD-drop}
+use lib.ListN.{length, getD, take, drop, length-append}
 use lib.Dec.{leb, ltb, eqb}
-use borrow.Author.Tests.{ltb-true, ltb-false, lt-ltb, le-ltb, le-leb, lt-leb, leb-true, eq-eqb, ne-eqb}
-use Rattle.meaning.specs.Frames.{digitValue, digit, spelled, bytesOf, allDigits, total, number, highFirst}
+use borrow.Author.Tests.{ltb-true, lt-ltb, le-leb, lt-leb, leb-true, leb-false, eqb-true, eq-eqb, ne-eqb}
+use Rattle.meaning.specs.declared.Line.the-variants.{Begin, Act, Refused}
+use Rattle.meaning.specs.Rows.{given}
+use Rattle.meaning.specs.Table.{countRight}
+use Rattle.meaning.specs.Frames.{digitValue, bytesOf, allDigits, total, number, digitsOf, actionOf, lineKind, lineFields, lineRefusal, readLine}
 
 -- both tests of a conjunction pass
 pub and-left : (a b : Bool) → a && b ≡ true → a ≡ true
@@ -138,3 +140,69 @@ number-below [] p = omega arith
 number-below (x ∷ bs) p =
     let low : x ≤ 255 = omega (arith, p .0) in
     rw pow-suc (omega (arith, number-below bs (p .1), mul-le-mul-right (256 ^ length bs) low))
+
+-- a kind's digits are some, and even in number
+pub digitsOf-even : (kind : ℕ) → (digitsOf kind % 2 ≡ 0) × (0 < digitsOf kind)
+unfolding digitsOf
+digitsOf-even kind = (omega arith, omega arith)
+
+-- the refusals of a line in their order
+module _ (l : List ℕ) where
+  pub refused-stray : allDigits l ≡ false → lineRefusal l ≡ 12
+  unfolding lineRefusal
+  refused-stray p = cc
+
+  pub refused-empty : allDigits l ≡ true → length l < 2 → lineRefusal l ≡ 11
+  unfolding lineRefusal
+  refused-empty p h = go (length l) refl h
+    where
+      go : (n : ℕ) → length l ≡ n → n < 2 → lineRefusal l ≡ 11
+      go zero e q = cc
+      go (suc zero) e q = cc
+      go (suc (suc n)) e q = absurd (omega arith)
+
+  -- what is left to ask of a line of digits that has its kind's length
+  pub refusal-whole : allDigits l ≡ true → lineKind (bytesOf l) < 4 → length l ≡ digitsOf (lineKind (bytesOf l))
+      → lineRefusal l
+      ≡ given (eqb (lineKind (bytesOf l)) 2 && ltb 3 (getD (lineFields (bytesOf l)) 4 0)) 11
+      (given (not (eqb (total (bytesOf l)) 0)) 13 (given (eqb (lineKind (bytesOf l)) 0 && not (countRight (getD (lineFields (bytesOf l)) 0 0))) 15 0))
+  unfolding lineRefusal
+  refusal-whole d known long =
+      let even = digitsOf-even (lineKind (bytesOf l)) in
+      let even′ : (length l % 2 ≡ 1 → ⊥) = rw long (omega arith) in
+      let some : (length l ≡ 0 → ⊥) = omega arith in
+      cc (
+        lt-leb 4 (lineKind (bytesOf l)) known,
+        ne-eqb (length l % 2) 1 even′,
+        ne-eqb (length l) 0 some,
+        eq-eqb (length l) (digitsOf (lineKind (bytesOf l))) long,
+      )
+
+  pub refused-length : allDigits l ≡ true → 2 ≤ length l → (lineKind (bytesOf l) < 4 → length l ≡ digitsOf (lineKind (bytesOf l)) → ⊥) → lineRefusal l ≡ 11
+  unfolding lineRefusal
+  refused-length d h p = go (eqb (length l % 2) 1) (leb 4 (lineKind (bytesOf l))) (eqb (length l) (digitsOf (lineKind (bytesOf l)))) refl refl refl
+    where
+      some : eqb (length l) 0 ≡ false
+      some = ne-eqb (length l) 0 (omega arith)
+
+      go : (odd unknown long : Bool) → eqb (length l % 2) 1 ≡ odd → leb 4 (lineKind (bytesOf l)) ≡ unknown
+          → eqb (length l) (digitsOf (lineKind (bytesOf l))) ≡ long → lineRefusal l ≡ 11
+      go true unknown long x y z = cc
+      go false true long x y z = cc some
+      go false false false x y z = cc some
+      go false false true x y z =
+          absurd (p (leb-false 4 (lineKind (bytesOf l)) y) (eqb-true (length l) (digitsOf (lineKind (bytesOf l))) z))
+
+-- what a line says: its refusal, a start or a step
+pub read-refused : (line k : ℕ) (l : List ℕ) → lineRefusal l ≡ suc k → Refused (suc k) ≡ readLine line l
+unfolding readLine
+read-refused line k l p = rw p refl
+
+pub read-begin : (line : ℕ) (l : List ℕ) → lineRefusal l ≡ 0 → lineKind (bytesOf l) ≡ 0 → Begin (getD (lineFields (bytesOf l)) 0 0) ≡ readLine line l
+unfolding readLine
+read-begin line l p q = cc (eq-eqb (lineKind (bytesOf l)) 0 q)
+
+pub read-act : (line : ℕ) (l : List ℕ) → lineRefusal l ≡ 0 → (lineKind (bytesOf l) ≡ 0 → ⊥)
+    → Act (record { line = line; action = actionOf (lineKind (bytesOf l)) (lineFields (bytesOf l)) }) ≡ readLine line l
+unfolding readLine
+read-act line l p q = cc (ne-eqb (lineKind (bytesOf l)) 0 q)

@@ -5,30 +5,22 @@ use Rattle.meaning.proofs.FrameLaws.{digit-decimal, digit-letter, digit-none}
 use borrow.Author.Needs.{needs}
 use Rattle.frames.proofs.read.digit_value.Statement.{statement}
 use Rattle.frames.proofs.read.digit_value.Tie as tie
-use Rattle.frames.proofs.read.digit_value.Reads as reads
-use Rattle.frames.proofs.read.digit_value.Lts as lts
 
--- src/read.rt:14:24
 sub-result : tie.Need-sub-result
 sub-result c = search needs
 
--- src/read.rt:9:1
 returns : tie.Need-returns
 returns c = sym (digit-decimal (c .before .before .args .c) (omega arith) (omega arith))
 
--- src/read.rt:9:1
 returns-2 : tie.Need-returns-2
 returns-2 c = sym (digit-letter (c .before .before .before .before .args .c) (omega arith) (omega arith))
 
--- src/read.rt:9:1
 returns-3 : tie.Need-returns-3
 returns-3 c = sym (digit-none (c .before .args .c) (omega arith) (omega arith))
 
--- src/read.rt:9:1
 returns-4 : tie.Need-returns-4
 returns-4 c = sym (digit-none (c .before .before .before .args .c) (omega arith) (omega arith))
 
--- src/read.rt:9:1
 returns-5 : tie.Need-returns-5
 returns-5 c = sym (digit-none (c .before .before .before .before .args .c) (omega arith) (omega arith))
 

@@ -1,14 +1,11 @@
 -- `field` meets its contract. The loop's invariant: the value is that of the bytes passed.
-use mathlib.Core.Path.{_≡_, refl, sym, _∙_}
-use Prim.Native.Nat.{_+_, _-_, _*_, _^_, _≤_, _<_}
+use mathlib.Core.Path.{_≡_}
+use Prim.Native.Nat.{_+_, _-_, _^_, _≤_, _<_}
 use native.Mathlib.Omega.{arith}
 use Rattle.frames.specs.Fields.{fieldAt}
 use Rattle.frames.proofs.ReadLaws.{field-none, field-more, field-below, field-end, below-four, pair-below}
 use Rattle.frames.proofs.read.field.Statement.{statement}
 use Rattle.frames.proofs.read.field.Tie as tie
-use Rattle.frames.proofs.read.field.Reads as reads
-use Rattle.frames.proofs.read.field.Lts as lts
-use Rattle.frames.proofs.read.pair.Reads as pair-reads
 
 abbrev Inv-loop : tie.InvT-loop
 Inv-loop s at width value₀ k₀ value k = (k ≤ width) × (value ≡ fieldAt s at k) × (value < 256 ^ k)
@@ -16,44 +13,35 @@ Inv-loop s at width value₀ k₀ value k = (k ≤ width) × (value ≡ fieldAt 
 abbrev μ-loop : tie.MeasureT-loop
 μ-loop s at width value₀ k₀ value k = width - k
 
--- src/read.rt:72:5
 loop-holds : tie.Need-loop-holds Inv-loop μ-loop
 loop-holds c = (omega arith, field-none (c .before .args .s .now) (c .before .args .at), omega arith)
 
--- src/read.rt:73:17
 mul-value : tie.Need-mul-value Inv-loop μ-loop
 mul-value c = omega (arith, below-four (c .before .loop .value) (c .before .loop .k) (c .before .loop .inv .2) (omega arith))
 
--- src/read.rt:73:39
 add-pair : tie.Need-add-pair Inv-loop μ-loop
 add-pair c = omega (arith, c .before .before .before .pre .1 .room)
 
--- src/read.rt:73:31
 pair-requires : tie.Need-pair-requires Inv-loop μ-loop
 pair-requires c κs = omega (arith, c .before .before .before .pre .1 .room)
 
--- src/read.rt:73:17
 add-value : tie.Need-add-value Inv-loop μ-loop
 add-value c =
     let small = pair-below (c .before .before .before .before .args .s .now) (c .before .before .before .before .args .at + c .before .before .loop .k) (c .before .before .before .before .pre .1 .digits) (omega (arith, c .before .before .before .before .pre .1 .room)) in
     omega (arith, below-four (c .before .before .loop .value) (c .before .before .loop .k) (c .before .before .loop .inv .2) (omega arith))
 
--- src/read.rt:74:9
 add-k : tie.Need-add-k Inv-loop μ-loop
 add-k c = omega arith
 
--- src/read.rt:72:5
 loop-less : tie.Need-loop-less Inv-loop μ-loop
 loop-less c = omega arith
 
--- src/read.rt:72:5
 loop-again : tie.Need-loop-again Inv-loop μ-loop
 loop-again c =
     let more = field-more (c .before .before .before .before .args .s .now) (c .before .before .before .before .args .at) (c .before .before .loop .k) (c .before .before .before .before .pre .1 .digits) (omega (arith, c .before .before .before .before .pre .1 .room)) in
     let below = field-below (c .before .before .before .before .args .s .now) (c .before .before .before .before .args .at) (c .before .before .loop .k + 1) (c .before .before .before .before .pre .1 .digits) (omega (arith, c .before .before .before .before .pre .1 .room)) in
     (omega arith, omega arith, omega arith)
 
--- src/read.rt:66:1
 returns : tie.Need-returns Inv-loop μ-loop
 returns c = field-end (c .before .before .before .args .s .now) (c .before .before .before .args .at) (c .before .loop .k) (c .before .before .before .args .width) (c .before .loop .value) (omega arith) (c .before .loop .inv .1) (c .before .loop .inv .2)
 

@@ -3,27 +3,19 @@ use Rattle.frames.proofs.ReadLaws.{odd-some, odd-none}
 use borrow.Author.Needs.{needs}
 use Rattle.frames.proofs.read.odd_stray.Statement.{statement}
 use Rattle.frames.proofs.read.odd_stray.Tie as tie
-use Rattle.frames.proofs.read.odd_stray.Reads as reads
-use Rattle.frames.proofs.read.odd_stray.Lts as lts
-use Rattle.frames.proofs.read.digit_value.Reads as digit-value-reads
 
--- src/read.rt:40:35
 sub-digit-value : tie.Need-sub-digit-value
 sub-digit-value c = search needs
 
--- src/read.rt:40:33
 shared-slice-read-digit-value : tie.Need-shared-slice-read-digit-value
 shared-slice-read-digit-value c = search needs
 
--- src/read.rt:40:21
 digit-value-requires : tie.Need-digit-value-requires
 digit-value-requires c κs = search needs
 
--- src/read.rt:40:9
 returns : tie.Need-returns
 returns c = odd-some (c .before .before .before .before .args .s .now) (c .digit-value .result) (c .before .before .if1 .taken) (c .digit-value .ensures)
 
--- src/read.rt:36:1
 returns-2 : tie.Need-returns-2
 returns-2 c = odd-none (c .before .before .args .s .now) (c .if1 .left)
 

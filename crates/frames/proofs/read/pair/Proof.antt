@@ -4,63 +4,46 @@ use Rattle.frames.proofs.ReadLaws.{pair-high, pair-low, pair-both}
 use borrow.Author.Needs.{needs}
 use Rattle.frames.proofs.read.pair.Statement.{statement}
 use Rattle.frames.proofs.read.pair.Tie as tie
-use Rattle.frames.proofs.read.pair.Reads as reads
-use Rattle.frames.proofs.read.pair.Lts as lts
-use Rattle.frames.proofs.read.digit_value.Reads as digit-value-reads
 
--- src/read.rt:24:30
 mul-digit-value : tie.Need-mul-digit-value
 mul-digit-value c = search needs
 
--- src/read.rt:24:28
 shared-slice-read-digit-value : tie.Need-shared-slice-read-digit-value
 shared-slice-read-digit-value c = search needs
 
--- src/read.rt:24:9
 digit-value-requires : tie.Need-digit-value-requires
 digit-value-requires c κs = search needs
 
--- src/read.rt:25:29
 mul-digit-value-2 : tie.Need-mul-digit-value-2
 mul-digit-value-2 c = search needs
 
--- src/read.rt:25:29
 add-digit-value : tie.Need-add-digit-value
 add-digit-value c = search needs
 
--- src/read.rt:25:27
 shared-slice-read-digit-value-2 : tie.Need-shared-slice-read-digit-value-2
 shared-slice-read-digit-value-2 c = search needs
 
--- src/read.rt:25:9
 digit-value-requires-2 : tie.Need-digit-value-requires-2
 digit-value-requires-2 c κs = search needs
 
--- src/read.rt:27:9
 returns : tie.Need-returns
 returns c = pair-high (c .before .before .before .before .before .before .args .s .now) (c .before .before .before .before .before .before .args .k) (omega arith)
 
--- src/read.rt:30:9
 returns-2 : tie.Need-returns-2
 returns-2 c = pair-low (c .before .before .before .before .before .before .before .args .s .now) (c .before .before .before .before .before .before .before .args .k) (omega arith) (omega arith)
 
--- src/read.rt:32:11
 cast-result : tie.Need-cast-result
 cast-result c = search needs
 
--- src/read.rt:32:5
 mul-result : tie.Need-mul-result
 mul-result c = search needs
 
--- src/read.rt:32:26
 cast-result-2 : tie.Need-cast-result-2
 cast-result-2 c = search needs
 
--- src/read.rt:32:5
 add-result : tie.Need-add-result
 add-result c = search needs
 
--- src/read.rt:20:1
 returns-3 : tie.Need-returns-3
 returns-3 c = omega (arith, pair-both (c .before .before .before .before .before .before .before .args .s .now) (c .before .before .before .before .before .before .before .args .k) (omega arith) (omega arith))
 

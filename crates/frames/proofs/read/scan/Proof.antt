@@ -1,19 +1,13 @@
 use Rattle.meaning.proofs.FrameLaws.{total-below}
-use mathlib.Core.Path.{_≡_, refl, sym, _∙_}
-use Prim.Native.Nat.{ℕ, _+_, _-_, _*_, _/_, _%_, _≤_, _<_}
+use mathlib.Core.Path.{_≡_, sym, _∙_}
+use Prim.Native.Nat.{ℕ, _-_, _*_, _/_, _≤_, _<_}
 use native.Mathlib.Omega.{arith}
 use lib.ListN.{length, getD, take}
 use borrow.Author.Needs.{needs}
 use Rattle.meaning.specs.Frames.{digitValue, bytesOf, total}
-use Rattle.frames.specs.Fields.{pairAt}
 use Rattle.frames.proofs.ReadLaws.{scanned-pair, scan-more, scanned-odd, scanned-end, total-none}
 use Rattle.frames.proofs.read.scan.Statement.{statement}
 use Rattle.frames.proofs.read.scan.Tie as tie
-use Rattle.frames.proofs.read.scan.Reads as reads
-use Rattle.frames.proofs.read.scan.Lts as lts
-use Rattle.frames.proofs.read.odd_stray.Reads as odd-stray-reads
-use Rattle.frames.proofs.read.pair.Reads as pair-reads
-use Rattle.std.proofs.num.wrapping_add_u8.Reads as wrapping-add-u8-reads
 
 -- `scan` meets its contract. The loop's invariant: the characters passed are digits, and the sum is that of their bytes.
 
@@ -23,53 +17,41 @@ Inv-loop s sum₀ k₀ sum k = (k ≤ length s / 2) × ((i : ℕ) → i < 2 * k 
 abbrev μ-loop : tie.MeasureT-loop
 μ-loop s sum₀ k₀ sum k = length s - k
 
--- src/read.rt:51:5
 loop-holds : tie.Need-loop-holds Inv-loop μ-loop
 loop-holds c = (omega arith, λ i h. absurd (omega arith), total-none (c .before .args .s .now))
 
--- src/read.rt:52:13
 pair-requires : tie.Need-pair-requires Inv-loop μ-loop
 pair-requires c κs = omega arith
 
--- src/read.rt:54:13
 returns : tie.Need-returns Inv-loop μ-loop
 returns c = scanned-pair (c .before .before .before .before .before .args .s .now) (c .before .before .before .loop .k) (omega arith) (omega arith)
 
--- src/read.rt:56:46
 cast-wrapping-add-u8 : tie.Need-cast-wrapping-add-u8 Inv-loop μ-loop
 cast-wrapping-add-u8 c = omega arith
 
--- src/read.rt:56:9
 wrapping-add-u8-requires : tie.Need-wrapping-add-u8-requires Inv-loop μ-loop
 wrapping-add-u8-requires c κs = search needs
 
--- src/read.rt:57:9
 add-k : tie.Need-add-k Inv-loop μ-loop
 add-k c = omega arith
 
--- src/read.rt:51:5
 loop-less : tie.Need-loop-less Inv-loop μ-loop
 loop-less c = omega arith
 
--- src/read.rt:51:5
 loop-again : tie.Need-loop-again Inv-loop μ-loop
 loop-again c =
     let more = scan-more (c .before .before .before .before .before .before .args .s .now) (c .before .before .before .before .loop .k) (c .before .before .before .before .loop .sum) (omega arith) (omega arith) (c .before .before .before .before .loop .inv .1) (c .before .before .before .before .loop .inv .2) in
     (omega arith, more .0, omega (arith, more .1))
 
--- src/read.rt:59:8
 odd-stray-requires : tie.Need-odd-stray-requires Inv-loop μ-loop
 odd-stray-requires c κs = search needs
 
--- src/read.rt:60:9
 returns-2 : tie.Need-returns-2 Inv-loop μ-loop
 returns-2 c = scanned-odd (c .before .before .before .before .before .args .s .now) (sym (c .before .odd-stray .ensures) ∙ c .if2 .taken)
 
--- src/read.rt:62:5
 cast-result : tie.Need-cast-result Inv-loop μ-loop
 cast-result c = omega (arith, total-below (take (c .before .before .before .loop .k) (bytesOf (c .before .before .before .before .before .args .s .now))))
 
--- src/read.rt:46:1
 returns-3 : tie.Need-returns-3 Inv-loop μ-loop
 returns-3 c = scanned-end (c .before .before .before .before .before .args .s .now) (c .before .before .before .loop .k) (c .before .before .before .loop .sum) (omega arith) (c .before .before .before .loop .inv .1) (sym (c .before .odd-stray .ensures) ∙ c .if2 .left) (c .before .before .before .loop .inv .2)
 
