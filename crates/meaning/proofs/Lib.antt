@@ -15,3 +15,5 @@ pub mod AccountCorollaries
 pub mod AccountRises
 pub mod AccountJournals
 pub mod FrameLaws
+pub mod FrameInverses
+pub mod FrameTheorems
