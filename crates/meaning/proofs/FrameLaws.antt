@@ -16,7 +16,7 @@ use Rattle.meaning.specs.declared.Framed.the-variants.{Length, Refused a
 use Rattle.meaning.specs.Rows.{given}
 use Rattle.meaning.specs.Table.{countRight, place}
 use Rattle.meaning.specs.Steps.{outcomeAbove}
-use Rattle.meaning.specs.Frames.{digitValue, bytesOf, allDigits, total, number, digitsOf, actionOf, lineKind, lineFields, lineRefusal, readLine, spelled, highFirst, packed, sealed, widths, frameOf, frame, startFrame, writerRefusal, starterRefusal, frameReply, frameAfter, startReply, startAfter}
+use Rattle.meaning.specs.Frames.{digitValue, bytesOf, allDigits, total, number, digitsOf, actionOf, lineKind, lineFields, lineRefusal, readLine, spelled, highFirst, packed, sealed, widths, frameOf, frame, startFrame, writerRefusal, starterRefusal, frameReply, frameAfter, startReply, startAfter, lineValues, lineIs, meant, framedValues, framed}
 
 -- both tests of a conjunction pass
 pub and-left : (a b : Bool) → a && b ≡ true → a ≡ true
@@ -337,3 +337,34 @@ above-three a b ca cb o h = lt-ltb 3 o h
 pub within-three : (a b ca cb o : ℕ) → o ≤ 3 → outcomeAbove (Session a b ca cb o) ≡ false
 unfolding outcomeAbove
 within-three a b ca cb o h = le-ltb 3 o h
+
+-- the values of an answer: the refusal first, and a frame's length
+pub value-refusal : (line : ℕ) (l : List ℕ) → getD (lineValues (readLine line l)) 0 0 ≡ lineRefusal l
+unfolding readLine
+value-refusal line l = go (lineRefusal l) (eqb (lineKind (bytesOf l)) 0)
+  where
+    go : (k : ℕ) (b : Bool) → getD (lineValues (lineIs k (meant line (bytesOf l) b))) 0 0 ≡ k
+    go zero true = refl
+    go zero false = refl
+    go (suc k) b = refl
+
+pub frame-most : (x : Action) → length (frame x) ≤ 27
+frame-most (Write p t b v) = rw (length-write p t b v) (omega arith)
+frame-most (Session a b ca cb o) = rw (length-session a b ca cb o) (omega arith)
+frame-most (Purge p) = rw (length-purge p) (omega arith)
+
+pub value-length : (out : List ℕ) (x : Action) → getD (framedValues (frameReply out x)) 1 0 ≤ 27
+unfolding frameReply
+value-length out x = go (writerRefusal out x)
+  where
+    go : (k : ℕ) → getD (framedValues (framed k (frame x))) 1 0 ≤ 27
+    go zero = frame-most x
+    go (suc k) = omega arith
+
+pub value-start : (out : List ℕ) (n : ℕ) → getD (framedValues (startReply out n)) 1 0 ≤ 27
+unfolding startReply
+value-start out n = go (starterRefusal out n)
+  where
+    go : (k : ℕ) → getD (framedValues (framed k (startFrame n))) 1 0 ≤ 27
+    go zero = rw (length-start n) (omega arith)
+    go (suc k) = omega arith

@@ -1,0 +1,2 @@
+// The C library: what other programs call, on numbers and slices. include/pollencart.h declares it; each module holds one part.
+pub mod framing;
