@@ -25,11 +25,9 @@ pub fn read_line(s: &[u8], line: usize) -> Line
     if s.len() != read::length_of(kind) {
         return Line::Refused { number: 11 };
     }
-    if 3 < read::outcome(s, kind) {
-        return Line::Refused { number: 11 };
-    }
-    if sum != 0 {
-        return Line::Refused { number: 13 };
+    let number = read::fault(read::outcome(s, kind), sum);
+    if number != 0 {
+        return Line::Refused { number };
     }
     if kind == 0 {
         return read::start(s);
