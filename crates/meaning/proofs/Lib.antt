@@ -17,3 +17,6 @@ pub mod AccountJournals
 pub mod VerdictLaws
 pub mod VerdictTheorems
 pub mod OneReply
+pub mod FrameLaws
+pub mod FrameInverses
+pub mod FrameTheorems

@@ -1,2 +1,3 @@
-// What C calls, thin functions over the proved crates. include/pollencart.h declares each.
+// The C library: what other programs call, on numbers and slices. include/pollencart.h declares it; each module holds one part.
 pub mod counts;
+pub mod framing;

@@ -1,0 +1,33 @@
+-- `action` meets its contract: each arm is the definition at its kind.
+use mathlib.Core.Path.{_∙_}
+use native.Mathlib.Omega.{arith}
+use Rattle.meaning.specs.Frames.{widths, digitsOf}
+use Rattle.frames.proofs.ReadLaws.{whole-at, action-write, action-session, action-purge}
+use Rattle.frames.proofs.read.action.Statement.{statement}
+use Rattle.frames.proofs.read.action.Tie as tie
+
+write-at-requires : tie.Need-write-at-requires
+unfolding digitsOf widths
+write-at-requires c κs = (c .before .before .pre .0 .digits, whole-at (c .before .before .args .s .now) (c .before .before .args .kind) 1 (c .before .before .pre .0) (c .match .keys1))
+
+session-at-requires : tie.Need-session-at-requires
+unfolding digitsOf widths
+session-at-requires c κs = (c .before .before .pre .0 .digits, whole-at (c .before .before .args .s .now) (c .before .before .args .kind) 2 (c .before .before .pre .0) (c .match .keys2))
+
+purge-at-requires : tie.Need-purge-at-requires
+unfolding digitsOf widths
+purge-at-requires c κs = (c .before .before .pre .0 .digits, whole-at (c .before .before .args .s .now) (c .before .before .args .kind) 3 (c .before .before .pre .0) (omega (arith, c .before .before .pre .0 .known)))
+
+returns : tie.Need-returns
+returns c = c .write-at .ensures ∙ action-write (c .before .before .before .args .s .now) (c .before .before .before .args .kind) (c .before .before .before .pre .0 .is) (c .before .match .keys1)
+
+returns-2 : tie.Need-returns-2
+returns-2 c = c .session-at .ensures ∙ action-session (c .before .before .before .args .s .now) (c .before .before .before .args .kind) (c .before .before .before .pre .0 .is) (c .before .match .keys2)
+
+returns-3 : tie.Need-returns-3
+returns-3 c = c .purge-at .ensures ∙ action-purge (c .before .before .before .args .s .now) (c .before .before .before .args .kind) (c .before .before .before .pre .0 .is) (omega (arith, c .before .before .before .pre .0 .known))
+
+pub action-spec : {M : Type 1} → statement M
+action-spec =
+    tie.close
+    (tie.spec write-at-requires session-at-requires purge-at-requires returns returns-2 returns-3)

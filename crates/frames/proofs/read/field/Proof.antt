@@ -1,0 +1,62 @@
+-- `field` meets its contract. The loop's invariant: the value is that of the bytes passed.
+use mathlib.Core.Path.{_≡_}
+use Prim.Native.Nat.{_+_, _-_, _^_, _≤_, _<_}
+use native.Mathlib.Omega.{arith}
+use Rattle.frames.specs.Fields.{fieldAt}
+use Rattle.frames.proofs.ReadLaws.{field-none, field-more, field-below, field-end, below-four, pair-below}
+use Rattle.frames.proofs.read.field.Statement.{statement}
+use Rattle.frames.proofs.read.field.Tie as tie
+
+abbrev Inv-loop : tie.InvT-loop
+Inv-loop s at width value₀ k₀ value k = (k ≤ width) × (value ≡ fieldAt s at k) × (value < 256 ^ k)
+
+abbrev μ-loop : tie.MeasureT-loop
+μ-loop s at width value₀ k₀ value k = width - k
+
+loop-holds : tie.Need-loop-holds Inv-loop μ-loop
+loop-holds c = (omega arith, field-none (c .before .args .s .now) (c .before .args .at), omega arith)
+
+mul-value : tie.Need-mul-value Inv-loop μ-loop
+mul-value c = omega (arith, below-four (c .before .loop .value) (c .before .loop .k) (c .before .loop .inv .2) (omega arith))
+
+add-pair : tie.Need-add-pair Inv-loop μ-loop
+add-pair c = omega (arith, c .before .before .before .pre .1 .room)
+
+pair-requires : tie.Need-pair-requires Inv-loop μ-loop
+pair-requires c κs = omega (arith, c .before .before .before .pre .1 .room)
+
+add-value : tie.Need-add-value Inv-loop μ-loop
+add-value c =
+    let small = pair-below (c .before .before .before .before .args .s .now) (c .before .before .before .before .args .at + c .before .before .loop .k) (c .before .before .before .before .pre .1 .digits) (omega (arith, c .before .before .before .before .pre .1 .room)) in
+    omega (arith, below-four (c .before .before .loop .value) (c .before .before .loop .k) (c .before .before .loop .inv .2) (omega arith))
+
+add-k : tie.Need-add-k Inv-loop μ-loop
+add-k c = omega arith
+
+loop-less : tie.Need-loop-less Inv-loop μ-loop
+loop-less c = omega arith
+
+loop-again : tie.Need-loop-again Inv-loop μ-loop
+loop-again c =
+    let more = field-more (c .before .before .before .before .args .s .now) (c .before .before .before .before .args .at) (c .before .before .loop .k) (c .before .before .before .before .pre .1 .digits) (omega (arith, c .before .before .before .before .pre .1 .room)) in
+    let below = field-below (c .before .before .before .before .args .s .now) (c .before .before .before .before .args .at) (c .before .before .loop .k + 1) (c .before .before .before .before .pre .1 .digits) (omega (arith, c .before .before .before .before .pre .1 .room)) in
+    (omega arith, omega arith, omega arith)
+
+returns : tie.Need-returns Inv-loop μ-loop
+returns c = field-end (c .before .before .before .args .s .now) (c .before .before .before .args .at) (c .before .loop .k) (c .before .before .before .args .width) (c .before .loop .value) (omega arith) (c .before .loop .inv .1) (c .before .loop .inv .2)
+
+pub field-spec : {M : Type 1} → statement M
+field-spec =
+    tie.close
+    (tie.spec
+    Inv-loop
+    μ-loop
+    loop-holds
+    mul-value
+    add-pair
+    pair-requires
+    add-value
+    add-k
+    loop-less
+    loop-again
+    returns)

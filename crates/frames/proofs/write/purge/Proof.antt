@@ -1,0 +1,27 @@
+-- `purge` meets its contract: too few bytes, or the frame.
+use mathlib.Core.Path.{refl}
+use Rattle.meaning.specs.declared.Action.the-variants.{Purge}
+use Rattle.meaning.specs.Steps.{outcomeAbove}
+use Rattle.meaning.specs.Frames.{widths, frame}
+use Rattle.meaning.proofs.FrameLaws.{framed-few, framed-full, length-purge}
+use borrow.Author.Needs.{needs}
+use Rattle.frames.proofs.write.purge.Statement.{statement}
+use Rattle.frames.proofs.write.purge.Tie as tie
+
+returns : tie.Need-returns
+unfolding outcomeAbove
+returns c = framed-few (c .before .before .args .out .now) (Purge (c .before .before .args .node)) 7 refl (length-purge (c .before .before .args .node)) (c .if1 .taken)
+
+put-short-requires : tie.Need-put-short-requires
+unfolding widths
+put-short-requires c κs = (refl, c .before .if1 .left)
+
+same-length : tie.Need-same-length
+same-length c = search needs
+
+returns-2 : tie.Need-returns-2
+unfolding outcomeAbove frame
+returns-2 c = framed-full (c .before .before .before .before .before .before .args .out .now) (c .before .before .put-short .last .0) (Purge (c .before .before .before .before .before .before .args .node)) 7 refl (length-purge (c .before .before .before .before .before .before .args .node)) (c .before .before .before .before .if1 .left) (c .before .before .put-short .ensures)
+
+pub purge-spec : {M : Type 1} → statement M
+purge-spec = tie.close (tie.spec returns put-short-requires same-length returns-2)

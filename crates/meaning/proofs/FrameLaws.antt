@@ -1,0 +1,370 @@
+-- Laws of a line's digits, bytes, sum and numbers, for whoever reads or writes frames.
+use mathlib.Core.Path.{_≡_, refl, sym, _∙_, ap}
+use mathlib.Core.Bool.{Bool, true, false, not, _&&_, cond}
+use mathlib.Core.List.{List, [], _∷_, _++_}
+use Prim.Native.Nat.{ℕ, zero, suc, _+_, _-_, _*_, _/_, _%_, _^_, _≤_, _<_}
+use native.Mathlib.Omega.{arith}
+use native.Mathlib.Numerals.{add-one}
+use native.Mathlib.Nat.{pow-suc, mul-assoc, mul-le-mul-right}
+use lib.ListN.{length, getD, take, drop, length-append}
+use lib.Dec.{leb, ltb, eqb}
+use borrow.Author.Tests.{ltb-true, lt-ltb, le-ltb, le-leb, lt-leb, leb-true, leb-false, eqb-true, eq-eqb, ne-eqb}
+use Rattle.meaning.specs.declared.Line.the-variants.{Begin, Act, Refused}
+use Rattle.meaning.specs.declared.Action.{Action}
+use Rattle.meaning.specs.declared.Action.the-variants.{Write, Session, Purge}
+use Rattle.meaning.specs.declared.Framed.the-variants.{Length, Refused as Unframed}
+use Rattle.meaning.specs.Rows.{given}
+use Rattle.meaning.specs.Table.{countRight, place}
+use Rattle.meaning.specs.Steps.{outcomeAbove}
+use Rattle.meaning.specs.Frames.{digitValue, bytesOf, allDigits, total, number, digitsOf, actionOf, lineKind, lineFields, lineRefusal, readLine, spelled, highFirst, packed, sealed, widths, frameOf, frame, startFrame, writerRefusal, starterRefusal, frameReply, frameAfter, startReply, startAfter, lineValues, lineIs, meant, framedValues, framed}
+
+-- both tests of a conjunction pass
+pub and-left : (a b : Bool) → a && b ≡ true → a ≡ true
+and-left true b p = refl
+and-left false b p = p
+
+pub and-right : (a b : Bool) → a && b ≡ true → b ≡ true
+and-right true b p = p
+and-right false b p = cc
+
+-- a digit's number, and 16 for any other character
+pub digit-decimal : (c : ℕ) → 48 ≤ c → c ≤ 57 → digitValue c ≡ c - 48
+unfolding digitValue
+digit-decimal c p q = cc (le-leb 48 c p, le-leb c 57 q)
+
+pub digit-letter : (c : ℕ) → 65 ≤ c → c ≤ 70 → digitValue c ≡ c - 55
+unfolding digitValue
+digit-letter c p q = cc (le-leb 48 c (omega arith), lt-leb c 57 (omega arith), le-leb 65 c p, le-leb c 70 q)
+
+pub digit-none : (c : ℕ) → (48 ≤ c → c ≤ 57 → ⊥) → (65 ≤ c → c ≤ 70 → ⊥) → digitValue c ≡ 16
+unfolding digitValue
+digit-none c p q = go (leb 48 c) (leb c 57) (leb 65 c) (leb c 70) refl refl refl refl
+  where
+    go : (a b d e : Bool) → leb 48 c ≡ a → leb c 57 ≡ b → leb 65 c ≡ d → leb c 70 ≡ e → cond (a && b) (c - 48) (cond (d && e) (c - 55) 16) ≡ 16
+    go true true d e h1 h2 h3 h4 = absurd (p (leb-true 48 c h1) (leb-true c 57 h2))
+    go true false true true h1 h2 h3 h4 = absurd (q (leb-true 65 c h3) (leb-true c 70 h4))
+    go true false true false h1 h2 h3 h4 = refl
+    go true false false e h1 h2 h3 h4 = refl
+    go false b true true h1 h2 h3 h4 = absurd (q (leb-true 65 c h3) (leb-true c 70 h4))
+    go false b true false h1 h2 h3 h4 = refl
+    go false b false e h1 h2 h3 h4 = refl
+
+-- two digits a byte
+pub length-bytesOf : (l : List ℕ) → length (bytesOf l) ≡ length l / 2
+unfolding bytesOf
+length-bytesOf [] = refl
+length-bytesOf (h ∷ []) = refl
+length-bytesOf (h ∷ (c ∷ cs)) = omega (arith, length-bytesOf cs)
+
+pub byte-at : (l : List ℕ) (k : ℕ) → k < length (bytesOf l) → getD (bytesOf l) k 0 ≡ 16 * digitValue (getD l (2 * k) 0) + digitValue (getD l (2 * k + 1) 0)
+unfolding bytesOf
+byte-at [] k h = absurd (omega arith)
+byte-at (h ∷ []) k p = absurd (omega arith)
+byte-at (h ∷ (c ∷ cs)) zero p = refl
+byte-at (h ∷ (c ∷ cs)) (suc k) p =
+    let odd : 2 * suc k + 1 ≡ suc (suc (2 * k + 1)) = omega arith in
+    let even : 2 * suc k ≡ suc (suc (2 * k)) = omega arith in
+    rw (odd, even) (byte-at cs k (omega arith))
+
+-- every character of a line is a digit exactly if the test says so
+pub digits-cons : (c : ℕ) (cs : List ℕ) → allDigits (c ∷ cs) ≡ true → (digitValue c < 16) × (allDigits cs ≡ true)
+unfolding allDigits
+digits-cons c cs p =
+    (ltb-true (digitValue c) 16 (and-left (ltb (digitValue c) 16) (allDigits cs) p), and-right (ltb (digitValue c) 16) (allDigits cs) p)
+
+pub digits-at : (l : List ℕ) (i : ℕ) → allDigits l ≡ true → i < length l → digitValue (getD l i 0) < 16
+digits-at [] i p h = absurd (omega arith)
+digits-at (c ∷ cs) zero p h = digits-cons c cs p .0
+digits-at (c ∷ cs) (suc i) p h = digits-at cs i (digits-cons c cs p .1) (omega arith)
+
+pub digits-all : (l : List ℕ) → ((i : ℕ) → i < length l → digitValue (getD l i 0) < 16) → allDigits l ≡ true
+unfolding allDigits
+digits-all [] p = refl
+digits-all (c ∷ cs) p = cc (lt-ltb (digitValue c) 16 (p 0 (omega arith)), digits-all cs (λ i h. p (suc i) (omega arith)))
+
+pub stray : (l : List ℕ) (i : ℕ) → i < length l → 16 ≤ digitValue (getD l i 0) → allDigits l ≡ false
+stray l i h p = go (allDigits l) refl
+  where
+    go : (b : Bool) → allDigits l ≡ b → b ≡ false
+    go true e = absurd (omega (arith, digits-at l i e h))
+    go false e = refl
+
+-- numbers below 256
+abbrev pub Bytes : List ℕ → Type 0
+Bytes [] = Unit
+Bytes (b ∷ bs) = (b < 256) × Bytes bs
+
+pub bytes-take : (k : ℕ) (bs : List ℕ) → Bytes bs → Bytes (take k bs)
+bytes-take zero bs p = tt
+bytes-take (suc k) [] p = tt
+bytes-take (suc k) (b ∷ bs) p = (p .0, bytes-take k bs (p .1))
+
+pub bytes-drop : (k : ℕ) (bs : List ℕ) → Bytes bs → Bytes (drop k bs)
+bytes-drop zero bs p = p
+bytes-drop (suc k) [] p = tt
+bytes-drop (suc k) (b ∷ bs) p = bytes-drop k bs (p .1)
+
+pub bytes-append : (xs ys : List ℕ) → Bytes xs → Bytes ys → Bytes (xs ++ ys)
+bytes-append [] ys p q = q
+bytes-append (x ∷ xs) ys p q = (p .0, bytes-append xs ys (p .1) q)
+
+pub bytes-of : (l : List ℕ) → allDigits l ≡ true → Bytes (bytesOf l)
+unfolding bytesOf
+bytes-of [] p = tt
+bytes-of (h ∷ []) p = tt
+bytes-of (h ∷ (c ∷ cs)) p =
+    let x = digits-cons h (c ∷ cs) p in
+    let y = digits-cons c cs (x .1) in
+    (omega arith, bytes-of cs (y .1))
+
+-- the wrapped sum
+pub total-append : (xs ys : List ℕ) → total (xs ++ ys) ≡ (total xs + total ys) % 256
+unfolding total
+total-append [] [] = refl
+total-append [] (y ∷ ys) = omega arith
+total-append (x ∷ xs) ys = omega (arith, total-append xs ys)
+
+pub total-below : (bs : List ℕ) → total bs < 256
+unfolding total
+total-below [] = omega arith
+total-below (b ∷ bs) = omega arith
+
+-- high byte first
+pub number-snoc : (bs : List ℕ) (b : ℕ) → number (bs ++ (b ∷ [])) ≡ number bs * 256 + b
+unfolding number
+number-snoc [] b = omega arith
+number-snoc (x ∷ bs) b =
+    let one : length (bs ++ (b ∷ [])) ≡ suc (length bs) = length-append bs (b ∷ []) ∙ add-one (length bs) in
+    let high : x * 256 ^ length (bs ++ (b ∷ [])) ≡ x * 256 ^ length bs * 256 = rw (one, pow-suc) (sym (mul-assoc x (256 ^ length bs) 256)) in
+    omega (arith, number-snoc bs b)
+
+pub number-below : (bs : List ℕ) → Bytes bs → number bs < 256 ^ length bs
+unfolding number
+number-below [] p = omega arith
+number-below (x ∷ bs) p =
+    let low : x ≤ 255 = omega (arith, p .0) in
+    rw pow-suc (omega (arith, number-below bs (p .1), mul-le-mul-right (256 ^ length bs) low))
+
+-- a kind's digits are some, and even in number
+pub digitsOf-even : (kind : ℕ) → (digitsOf kind % 2 ≡ 0) × (0 < digitsOf kind)
+unfolding digitsOf
+digitsOf-even kind = (omega arith, omega arith)
+
+-- the refusals of a line in their order
+module _ (l : List ℕ) where
+  pub refused-stray : allDigits l ≡ false → lineRefusal l ≡ 12
+  unfolding lineRefusal
+  refused-stray p = cc
+
+  pub refused-empty : allDigits l ≡ true → length l < 2 → lineRefusal l ≡ 11
+  unfolding lineRefusal
+  refused-empty p h = go (length l) refl h
+    where
+      go : (n : ℕ) → length l ≡ n → n < 2 → lineRefusal l ≡ 11
+      go zero e q = cc
+      go (suc zero) e q = cc
+      go (suc (suc n)) e q = absurd (omega arith)
+
+  -- what is left to ask of a line of digits that has its kind's length
+  pub refusal-whole : allDigits l ≡ true → lineKind (bytesOf l) < 4 → length l ≡ digitsOf (lineKind (bytesOf l))
+      → lineRefusal l
+      ≡ given (eqb (lineKind (bytesOf l)) 2 && ltb 3 (getD (lineFields (bytesOf l)) 4 0)) 11
+      (given (not (eqb (total (bytesOf l)) 0)) 13 (given (eqb (lineKind (bytesOf l)) 0 && not (countRight (getD (lineFields (bytesOf l)) 0 0))) 15 0))
+  unfolding lineRefusal
+  refusal-whole d known long =
+      let even = digitsOf-even (lineKind (bytesOf l)) in
+      let even′ : (length l % 2 ≡ 1 → ⊥) = rw long (omega arith) in
+      let some : (length l ≡ 0 → ⊥) = omega arith in
+      cc (
+        lt-leb 4 (lineKind (bytesOf l)) known,
+        ne-eqb (length l % 2) 1 even′,
+        ne-eqb (length l) 0 some,
+        eq-eqb (length l) (digitsOf (lineKind (bytesOf l))) long,
+      )
+
+  pub refused-length : allDigits l ≡ true → 2 ≤ length l → (lineKind (bytesOf l) < 4 → length l ≡ digitsOf (lineKind (bytesOf l)) → ⊥) → lineRefusal l ≡ 11
+  unfolding lineRefusal
+  refused-length d h p = go (eqb (length l % 2) 1) (leb 4 (lineKind (bytesOf l))) (eqb (length l) (digitsOf (lineKind (bytesOf l)))) refl refl refl
+    where
+      some : eqb (length l) 0 ≡ false
+      some = ne-eqb (length l) 0 (omega arith)
+
+      go : (odd unknown long : Bool) → eqb (length l % 2) 1 ≡ odd → leb 4 (lineKind (bytesOf l)) ≡ unknown
+          → eqb (length l) (digitsOf (lineKind (bytesOf l))) ≡ long → lineRefusal l ≡ 11
+      go true unknown long x y z = cc
+      go false true long x y z = cc some
+      go false false false x y z = cc some
+      go false false true x y z =
+          absurd (p (leb-false 4 (lineKind (bytesOf l)) y) (eqb-true (length l) (digitsOf (lineKind (bytesOf l))) z))
+
+-- what a line says: its refusal, a start or a step
+pub read-refused : (line k : ℕ) (l : List ℕ) → lineRefusal l ≡ suc k → Refused (suc k) ≡ readLine line l
+unfolding readLine
+read-refused line k l p = rw p refl
+
+pub read-begin : (line : ℕ) (l : List ℕ) → lineRefusal l ≡ 0 → lineKind (bytesOf l) ≡ 0 → Begin (getD (lineFields (bytesOf l)) 0 0) ≡ readLine line l
+unfolding readLine
+read-begin line l p q = cc (eq-eqb (lineKind (bytesOf l)) 0 q)
+
+pub read-act : (line : ℕ) (l : List ℕ) → lineRefusal l ≡ 0 → (lineKind (bytesOf l) ≡ 0 → ⊥)
+    → Act (record { line = line; action = actionOf (lineKind (bytesOf l)) (lineFields (bytesOf l)) }) ≡ readLine line l
+unfolding readLine
+read-act line l p q = cc (ne-eqb (lineKind (bytesOf l)) 0 q)
+
+-- two digits a byte, written
+pub spelled-append : (xs ys : List ℕ) → spelled (xs ++ ys) ≡ spelled xs ++ spelled ys
+unfolding spelled
+spelled-append [] ys = refl
+spelled-append (x ∷ xs) ys = cc (spelled-append xs ys)
+
+pub length-spelled : (bs : List ℕ) → length (spelled bs) ≡ 2 * length bs
+unfolding spelled
+length-spelled [] = refl
+length-spelled (b ∷ bs) = omega (arith, length-spelled bs)
+
+pub length-highFirst : (k v : ℕ) → length (highFirst k v) ≡ k
+unfolding highFirst
+length-highFirst zero v = refl
+length-highFirst (suc k) v = omega (arith, length-append (highFirst k (v / 256)) (v % 256 ∷ []), length-highFirst k (v / 256))
+
+pub bytes-highFirst : (k v : ℕ) → Bytes (highFirst k v)
+unfolding highFirst
+bytes-highFirst zero v = tt
+bytes-highFirst (suc k) v = bytes-append (highFirst k (v / 256)) (v % 256 ∷ []) (bytes-highFirst k (v / 256)) (omega arith, tt)
+
+-- what a writer answers and leaves
+pub framed-right : (out : List ℕ) (x : Action) → writerRefusal out x ≡ 0 → (Length (length (frame x)) ≡ frameReply out x) × (place 0 (frame x) out ≡ frameAfter out x)
+unfolding frameReply frameAfter
+framed-right out x p = (rw p refl, rw p refl)
+
+pub framed-wrong : (out : List ℕ) (x : Action) (k : ℕ) → writerRefusal out x ≡ suc k → (Unframed (suc k) ≡ frameReply out x) × (out ≡ frameAfter out x)
+unfolding frameReply frameAfter
+framed-wrong out x k p = (rw p refl, rw p refl)
+
+pub started-right : (out : List ℕ) (n : ℕ) → starterRefusal out n ≡ 0 → (Length (length (startFrame n)) ≡ startReply out n) × (place 0 (startFrame n) out ≡ startAfter out n)
+unfolding startReply startAfter
+started-right out n p = (rw p refl, rw p refl)
+
+pub started-wrong : (out : List ℕ) (n k : ℕ) → starterRefusal out n ≡ suc k → (Unframed (suc k) ≡ startReply out n) × (out ≡ startAfter out n)
+unfolding startReply startAfter
+started-wrong out n k p = (rw p refl, rw p refl)
+
+-- the length of each frame, LF included
+pub length-write : (p t b v : ℕ) → length (frame (Write p t b v)) ≡ 25
+unfolding frame frameOf sealed widths packed highFirst spelled
+length-write p t b v = refl
+
+pub length-session : (a b ca cb o : ℕ) → length (frame (Session a b ca cb o)) ≡ 27
+unfolding frame frameOf sealed widths packed highFirst spelled
+length-session a b ca cb o = refl
+
+pub length-purge : (p : ℕ) → length (frame (Purge p)) ≡ 7
+unfolding frame frameOf sealed widths packed highFirst spelled
+length-purge p = refl
+
+pub length-start : (n : ℕ) → length (startFrame n) ≡ 7
+unfolding startFrame frameOf sealed widths packed highFirst spelled
+length-start n = refl
+
+-- the writers' refusals: "refuses with 2 as above, then with 17 if the lent bytes are too few"
+pub writer-outcome : (out : List ℕ) (x : Action) → outcomeAbove x ≡ true → writerRefusal out x ≡ 2
+unfolding writerRefusal
+writer-outcome out x p = cc
+
+pub writer-few : (out : List ℕ) (x : Action) → outcomeAbove x ≡ false → length out < length (frame x) → writerRefusal out x ≡ 17
+unfolding writerRefusal
+writer-few out x p h = cc (lt-ltb (length out) (length (frame x)) h)
+
+pub writer-none : (out : List ℕ) (x : Action) → outcomeAbove x ≡ false → length (frame x) ≤ length out → writerRefusal out x ≡ 0
+unfolding writerRefusal
+writer-none out x p h = cc (le-ltb (length out) (length (frame x)) h)
+
+pub starter-count : (out : List ℕ) (n : ℕ) → countRight n ≡ false → starterRefusal out n ≡ 15
+unfolding starterRefusal
+starter-count out n p = rw (starterRefusal, p) refl
+
+pub starter-few : (out : List ℕ) (n : ℕ) → countRight n ≡ true → length out < length (startFrame n) → starterRefusal out n ≡ 17
+unfolding starterRefusal
+starter-few out n p h = rw (starterRefusal, p, lt-ltb (length out) (length (startFrame n)) h) refl
+
+pub starter-none : (out : List ℕ) (n : ℕ) → countRight n ≡ true → length (startFrame n) ≤ length out → starterRefusal out n ≡ 0
+unfolding starterRefusal
+starter-none out n p h = rw (starterRefusal, p, le-ltb (length out) (length (startFrame n)) h) refl
+
+-- a count of 2 to 16
+pub count-right : (n : ℕ) → 2 ≤ n → n ≤ 16 → countRight n ≡ true
+count-right n p q = cc (le-leb 2 n p, le-leb n 16 q)
+
+pub count-wrong : (n : ℕ) → (2 ≤ n → n ≤ 16 → ⊥) → countRight n ≡ false
+count-wrong n p = go (leb 2 n) (leb n 16) refl refl
+  where
+    go : (a b : Bool) → leb 2 n ≡ a → leb n 16 ≡ b → a && b ≡ false
+    go true true x y = absurd (p (leb-true 2 n x) (leb-true n 16 y))
+    go true false x y = refl
+    go false b x y = refl
+
+-- a step's frame in too few bytes, and in enough
+pub framed-outcome : (out : List ℕ) (x : Action) → outcomeAbove x ≡ true → (Unframed 2 ≡ frameReply out x) × (out ≡ frameAfter out x)
+framed-outcome out x p = framed-wrong out x 1 (writer-outcome out x p)
+
+pub framed-few : (out : List ℕ) (x : Action) (n : ℕ) → outcomeAbove x ≡ false → length (frame x) ≡ n → length out < n → (Unframed 17 ≡ frameReply out x) × (out ≡ frameAfter out x)
+framed-few out x n p e h = framed-wrong out x 16 (writer-few out x p (rw e h))
+
+pub framed-full : (out out′ : List ℕ) (x : Action) (n : ℕ) → outcomeAbove x ≡ false → length (frame x) ≡ n → n ≤ length out → out′ ≡ place 0 (frame x) out
+    → (Length n ≡ frameReply out x) × (out′ ≡ frameAfter out x)
+framed-full out out′ x n p e h q =
+    let right = framed-right out x (writer-none out x p (rw e h)) in
+    (ap Length (sym e) ∙ right .0, q ∙ right .1)
+
+-- the same of a start's
+pub started-count : (out : List ℕ) (n : ℕ) → countRight n ≡ false → (Unframed 15 ≡ startReply out n) × (out ≡ startAfter out n)
+started-count out n p = started-wrong out n 14 (starter-count out n p)
+
+pub started-few : (out : List ℕ) (n : ℕ) → countRight n ≡ true → length out < 7 → (Unframed 17 ≡ startReply out n) × (out ≡ startAfter out n)
+started-few out n p h = started-wrong out n 16 (starter-few out n p (rw (length-start n) h))
+
+pub started-full : (out out′ : List ℕ) (n : ℕ) → countRight n ≡ true → 7 ≤ length out → out′ ≡ place 0 (startFrame n) out
+    → (Length 7 ≡ startReply out n) × (out′ ≡ startAfter out n)
+started-full out out′ n p h q =
+    let right = started-right out n (starter-none out n p (rw (length-start n) h)) in
+    (ap Length (sym (length-start n)) ∙ right .0, q ∙ right .1)
+
+-- a session's outcome above 3
+pub above-three : (a b ca cb o : ℕ) → 3 < o → outcomeAbove (Session a b ca cb o) ≡ true
+unfolding outcomeAbove
+above-three a b ca cb o h = lt-ltb 3 o h
+
+pub within-three : (a b ca cb o : ℕ) → o ≤ 3 → outcomeAbove (Session a b ca cb o) ≡ false
+unfolding outcomeAbove
+within-three a b ca cb o h = le-ltb 3 o h
+
+-- the values of an answer: the refusal first, and a frame's length
+pub value-refusal : (line : ℕ) (l : List ℕ) → getD (lineValues (readLine line l)) 0 0 ≡ lineRefusal l
+unfolding readLine
+value-refusal line l = go (lineRefusal l) (eqb (lineKind (bytesOf l)) 0)
+  where
+    go : (k : ℕ) (b : Bool) → getD (lineValues (lineIs k (meant line (bytesOf l) b))) 0 0 ≡ k
+    go zero true = refl
+    go zero false = refl
+    go (suc k) b = refl
+
+pub frame-most : (x : Action) → length (frame x) ≤ 27
+frame-most (Write p t b v) = rw (length-write p t b v) (omega arith)
+frame-most (Session a b ca cb o) = rw (length-session a b ca cb o) (omega arith)
+frame-most (Purge p) = rw (length-purge p) (omega arith)
+
+pub value-length : (out : List ℕ) (x : Action) → getD (framedValues (frameReply out x)) 1 0 ≤ 27
+unfolding frameReply
+value-length out x = go (writerRefusal out x)
+  where
+    go : (k : ℕ) → getD (framedValues (framed k (frame x))) 1 0 ≤ 27
+    go zero = frame-most x
+    go (suc k) = omega arith
+
+pub value-start : (out : List ℕ) (n : ℕ) → getD (framedValues (startReply out n)) 1 0 ≤ 27
+unfolding startReply
+value-start out n = go (starterRefusal out n)
+  where
+    go : (k : ℕ) → getD (framedValues (framed k (startFrame n))) 1 0 ≤ 27
+    go zero = rw (length-start n) (omega arith)
+    go (suc k) = omega arith
