@@ -152,6 +152,10 @@ fn overfills(
     if !finishes {
         return false;
     }
+    // Where even all of the partner's records have room, none is counted.
+    if mine_held + theirs_held <= layout::LOG_MOST {
+        return false;
+    }
     let at = layout::log_at(q);
     let end = at + layout::LOG_WORDS;
     let summary = mine.summary;

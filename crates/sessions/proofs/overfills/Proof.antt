@@ -4,7 +4,7 @@ use mathlib.Core.Bool.{Bool, true, false, not}
 use mathlib.Core.List.{List, [], _∷_, _++_}
 use Prim.Native.Nat.{ℕ, _+_, _*_, _-_, _≤_, _<_}
 use native.Mathlib.Omega.{arith}
-use borrow.Author.Tests.{not-true, not-false}
+use borrow.Author.Tests.{not-true, not-false, le-ltb}
 use lib.ListN.{length, take, drop, length-append}
 use lib.Dec.{ltb}
 use Rattle.meaning.specs.Rows.{newer, records}
@@ -28,6 +28,23 @@ use Rattle.rows.proofs.log.newer_count.Reads as newer-count-reads
 module _ (t : List ℕ) (f : Bool) (n p q : ℕ) (mine theirs : Start) (mh th : ℕ) (s : Sides t n p q mine theirs mh th) where
   off : f ≡ false → false ≡ overfull f (begun n mine (node t p .log)) (begun n theirs (heldLog t q th))
   off e = rw e
+
+  small : mh + th ≤ 128
+  small =
+      let d = s .theirsMost in
+      let g = s .mineNow in
+      let r : held t p ≤ logMost = s .isSound .room p (s .here) in
+      omega arith
+
+  roomy : f ≡ true → mh + th ≤ logMost → false ≡ overfull f (begun n mine (node t p .log)) (begun n theirs (heldLog t q th))
+  unfolding finished
+  roomy e h =
+      let a = length-append (node t p .log) (newer (take n (mine .summary)) (heldLog t q th)) in
+      let b = held-log t p in
+      let d = s .mineNow in
+      let c = length-newer (take n (mine .summary)) (heldLog t q th) in
+      let k = length-records th (part (logAt q) (4 * logMost) t) in
+      rw e (sym (le-ltb logMost (length (node t p .log ++ newer (take n (mine .summary)) (heldLog t q th))) (omega arith)))
 
   module _ (m at : ℕ) (em : m ≡ n) (ea : at ≡ logAt q) where
     lent : take ((at + 256) - at) (drop at t) ≡ part (logAt q) (4 * logMost) t
@@ -72,6 +89,14 @@ module _ (t : List ℕ) (f : Bool) (n p q : ℕ) (mine theirs : Start) (mh th : 
 returns : tie.Need-returns
 returns c = off (c .before .before .args .t .now) (c .before .before .args .finishes) (c .before .before .args .n) (c .before .before .args .p) (c .before .before .args .q) (c .before .before .args .mine) (c .before .before .args .theirs) (c .before .before .args .mine-held) (c .before .before .args .theirs-held) (c .before .before .pre) (not-true (c .before .before .args .finishes) (c .if1 .taken))
 
+add-if2 : tie.Need-add-if2
+add-if2 c =
+    let b = small (c .before .before .args .t .now) (c .before .before .args .finishes) (c .before .before .args .n) (c .before .before .args .p) (c .before .before .args .q) (c .before .before .args .mine) (c .before .before .args .theirs) (c .before .before .args .mine-held) (c .before .before .args .theirs-held) (c .before .before .pre) in
+    omega arith
+
+returns-2 : tie.Need-returns-2
+returns-2 c = roomy (c .before .before .before .args .t .now) (c .before .before .before .args .finishes) (c .before .before .before .args .n) (c .before .before .before .args .p) (c .before .before .before .args .q) (c .before .before .before .args .mine) (c .before .before .before .args .theirs) (c .before .before .before .args .mine-held) (c .before .before .before .args .theirs-held) (c .before .before .before .pre) (not-false (c .before .before .before .args .finishes) (c .before .if1 .left)) (c .if2 .taken)
+
 log-at-requires : tie.Need-log-at-requires
 log-at-requires c κs = search needs
 
@@ -85,7 +110,7 @@ part-newer-count-start : tie.Need-part-newer-count-start
 part-newer-count-start c = search needs
 
 part-newer-count-end : tie.Need-part-newer-count-end
-part-newer-count-end c = long-enough (c .before .before .before .before .before .args .n) (c .before .before .before .before .before .args .mine .summary) (c .before .before .before .before .before .pre .mineLong .0)
+part-newer-count-end c = long-enough (c .before .before .before .before .before .before .args .n) (c .before .before .before .before .before .before .args .mine .summary) (c .before .before .before .before .before .before .pre .mineLong .0)
 
 mul-newer-count : tie.Need-mul-newer-count
 mul-newer-count c = search needs
@@ -101,25 +126,27 @@ part-newer-count-end-2 c = search needs
 
 newer-count-requires : tie.Need-newer-count-requires
 newer-count-requires c κs =
-    let z : c .before .before .before .before .before .before .before .args .n - 0 ≡ c .before .before .before .before .before .before .before .args .n = omega arith in
-    ready (c .before .before .before .before .before .before .before .args .t .now) (c .before .before .before .before .before .before .before .args .finishes) (c .before .before .before .before .before .before .before .args .n) (c .before .before .before .before .before .before .before .args .p) (c .before .before .before .before .before .before .before .args .q) (c .before .before .before .before .before .before .before .args .mine) (c .before .before .before .before .before .before .before .args .theirs) (c .before .before .before .before .before .before .before .args .mine-held) (c .before .before .before .before .before .before .before .args .theirs-held) (c .before .before .before .before .before .before .before .pre) (c .before .before .before .before .before .before .before .args .n - 0) (c .before .before .before .before .log-at .result) z (c .before .before .before .before .log-at .ensures)
+    let z : c .before .before .before .before .before .before .before .before .args .n - 0 ≡ c .before .before .before .before .before .before .before .before .args .n = omega arith in
+    ready (c .before .before .before .before .before .before .before .before .args .t .now) (c .before .before .before .before .before .before .before .before .args .finishes) (c .before .before .before .before .before .before .before .before .args .n) (c .before .before .before .before .before .before .before .before .args .p) (c .before .before .before .before .before .before .before .before .args .q) (c .before .before .before .before .before .before .before .before .args .mine) (c .before .before .before .before .before .before .before .before .args .theirs) (c .before .before .before .before .before .before .before .before .args .mine-held) (c .before .before .before .before .before .before .before .before .args .theirs-held) (c .before .before .before .before .before .before .before .before .pre) (c .before .before .before .before .before .before .before .before .args .n - 0) (c .before .before .before .before .log-at .result) z (c .before .before .before .before .log-at .ensures)
 
 add-result : tie.Need-add-result
 add-result c =
-    let z : c .before .before .before .before .before .before .before .before .args .n - 0 ≡ c .before .before .before .before .before .before .before .before .args .n = omega arith in
-    let b = few (c .before .before .before .before .before .before .before .before .args .t .now) (c .before .before .before .before .before .before .before .before .args .finishes) (c .before .before .before .before .before .before .before .before .args .n) (c .before .before .before .before .before .before .before .before .args .p) (c .before .before .before .before .before .before .before .before .args .q) (c .before .before .before .before .before .before .before .before .args .mine) (c .before .before .before .before .before .before .before .before .args .theirs) (c .before .before .before .before .before .before .before .before .args .mine-held) (c .before .before .before .before .before .before .before .before .args .theirs-held) (c .before .before .before .before .before .before .before .before .pre) (c .before .before .before .before .before .before .before .before .args .n - 0) (c .before .before .before .before .before .log-at .result) z (c .before .before .before .before .before .log-at .ensures) (c .newer-count .result) (c .newer-count .ensures) in
+    let z : c .before .before .before .before .before .before .before .before .before .args .n - 0 ≡ c .before .before .before .before .before .before .before .before .before .args .n = omega arith in
+    let b = few (c .before .before .before .before .before .before .before .before .before .args .t .now) (c .before .before .before .before .before .before .before .before .before .args .finishes) (c .before .before .before .before .before .before .before .before .before .args .n) (c .before .before .before .before .before .before .before .before .before .args .p) (c .before .before .before .before .before .before .before .before .before .args .q) (c .before .before .before .before .before .before .before .before .before .args .mine) (c .before .before .before .before .before .before .before .before .before .args .theirs) (c .before .before .before .before .before .before .before .before .before .args .mine-held) (c .before .before .before .before .before .before .before .before .before .args .theirs-held) (c .before .before .before .before .before .before .before .before .before .pre) (c .before .before .before .before .before .before .before .before .before .args .n - 0) (c .before .before .before .before .before .log-at .result) z (c .before .before .before .before .before .log-at .ensures) (c .newer-count .result) (c .newer-count .ensures) in
     omega arith
 
-returns-2 : tie.Need-returns-2
-returns-2 c =
-    let z : c .before .before .before .before .before .before .before .before .args .n - 0 ≡ c .before .before .before .before .before .before .before .before .args .n = omega arith in
-    on (c .before .before .before .before .before .before .before .before .args .t .now) (c .before .before .before .before .before .before .before .before .args .finishes) (c .before .before .before .before .before .before .before .before .args .n) (c .before .before .before .before .before .before .before .before .args .p) (c .before .before .before .before .before .before .before .before .args .q) (c .before .before .before .before .before .before .before .before .args .mine) (c .before .before .before .before .before .before .before .before .args .theirs) (c .before .before .before .before .before .before .before .before .args .mine-held) (c .before .before .before .before .before .before .before .before .args .theirs-held) (c .before .before .before .before .before .before .before .before .pre) (c .before .before .before .before .before .before .before .before .args .n - 0) (c .before .before .before .before .before .log-at .result) z (c .before .before .before .before .before .log-at .ensures) (not-false (c .before .before .before .before .before .before .before .before .args .finishes) (c .before .before .before .before .before .before .if1 .left)) (c .newer-count .result) (c .newer-count .ensures)
+returns-3 : tie.Need-returns-3
+returns-3 c =
+    let z : c .before .before .before .before .before .before .before .before .before .args .n - 0 ≡ c .before .before .before .before .before .before .before .before .before .args .n = omega arith in
+    on (c .before .before .before .before .before .before .before .before .before .args .t .now) (c .before .before .before .before .before .before .before .before .before .args .finishes) (c .before .before .before .before .before .before .before .before .before .args .n) (c .before .before .before .before .before .before .before .before .before .args .p) (c .before .before .before .before .before .before .before .before .before .args .q) (c .before .before .before .before .before .before .before .before .before .args .mine) (c .before .before .before .before .before .before .before .before .before .args .theirs) (c .before .before .before .before .before .before .before .before .before .args .mine-held) (c .before .before .before .before .before .before .before .before .before .args .theirs-held) (c .before .before .before .before .before .before .before .before .before .pre) (c .before .before .before .before .before .before .before .before .before .args .n - 0) (c .before .before .before .before .before .log-at .result) z (c .before .before .before .before .before .log-at .ensures) (not-false (c .before .before .before .before .before .before .before .before .before .args .finishes) (c .before .before .before .before .before .before .before .if1 .left)) (c .newer-count .result) (c .newer-count .ensures)
 
 pub overfills-spec : {M : Type 1} → statement M
 overfills-spec =
     tie.close
     (tie.spec
     returns
+    add-if2
+    returns-2
     log-at-requires
     add-end
     sub-newer-count
@@ -131,4 +158,4 @@ overfills-spec =
     part-newer-count-end-2
     newer-count-requires
     add-result
-    returns-2)
+    returns-3)
