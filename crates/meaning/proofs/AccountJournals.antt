@@ -82,6 +82,9 @@ next-right s at line =
     (cond-right (unended s at) (RefusedAt 14) _ refl
     (inTurn-right (eqb at 0) (placeAfter s at) (readLine line (lineAt s at)) (line-right line (lineAt s at))))
 
+pub begin-right : (s : List ℕ) (at line : ℕ) {n next : ℕ} → nextAt s at line ≡ BeginAt n next → countRight n ≡ true
+begin-right s at line e = sym (ap nextRight e) ∙ next-right s at line
+
 -- a journal has no start, or one of 2 to 16 nodes
 journal-right-at : (s : List ℕ) (x : Next) → nextAt s 0 1 ≡ x → nextRight x ≡ true → (journal s .n ≡ 0) ⊎ (countRight (journal s .n) ≡ true)
 unfolding journal
@@ -93,7 +96,7 @@ journal-right-at s End e h = rw (e, journal) (inl refl)
 pub journal-right : (s : List ℕ) → (journal s .n ≡ 0) ⊎ (countRight (journal s .n) ≡ true)
 journal-right s = journal-right-at s (nextAt s 0 1) refl (next-right s 0 1)
 
-started : (n : ℕ) (t : List ℕ) → 0 < n → startedFrom n t ≡ fresh n
+pub started : (n : ℕ) (t : List ℕ) → 0 < n → startedFrom n t ≡ fresh n
 started zero t h = absurd (omega arith)
 started (suc n) t h = refl
 

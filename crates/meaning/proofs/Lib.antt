@@ -3,6 +3,8 @@ pub mod PlaceLaws
 pub mod RowLaws
 pub mod TableLaws
 pub mod StepLaws
+pub mod FrameLaws
+pub mod JournalLaws
 pub mod PutLaws
 pub mod SoundLaws
 pub mod AccountLaws

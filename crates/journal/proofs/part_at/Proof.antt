@@ -1,0 +1,131 @@
+-- `part_at` hands back the part up to the LF before the next place, and nothing with a refusal or at the end.
+use mathlib.Core.Path.{sym, _∙_}
+use native.Mathlib.Omega.{arith}
+use denote.Ref.{now}
+use Rattle.journal.proofs.Finding.{begun, acted}
+use borrow.Author.Needs.{needs}
+use Rattle.journal.proofs.part_at.Statement.{statement}
+use Rattle.journal.proofs.part_at.Tie as tie
+
+next-at-requires : tie.Need-next-at-requires
+next-at-requires c κs = search needs
+
+enum-known-next : tie.Need-enum-known-next
+enum-known-next c = search needs
+
+sub-result : tie.Need-sub-result
+sub-result c =
+    let f = begun (now (c .before .before .before .before .before .args .s)) (c .before .before .before .before .before .args .at) (c .before .before .before .before .before .args .line) (sym (c .before .before .before .next-at .ensures) ∙ c .before .next .given .1) in
+    omega arith
+
+sub-result-2 : tie.Need-sub-result-2
+sub-result-2 c =
+    let f = begun (now (c .before .before .before .before .before .args .s)) (c .before .before .before .before .before .args .at) (c .before .before .before .before .before .args .line) (sym (c .before .before .before .next-at .ensures) ∙ c .before .next .given .1) in
+    omega arith
+
+part-result-start : tie.Need-part-result-start
+part-result-start c =
+    let f = begun (now (c .before .before .before .before .before .args .s)) (c .before .before .before .before .before .args .at) (c .before .before .before .before .before .args .line) (sym (c .before .before .before .next-at .ensures) ∙ c .before .next .given .1) in
+    omega arith
+
+part-result-end : tie.Need-part-result-end
+part-result-end c =
+    let f = begun (now (c .before .before .before .before .before .args .s)) (c .before .before .before .before .before .args .at) (c .before .before .before .before .before .args .line) (sym (c .before .before .before .next-at .ensures) ∙ c .before .next .given .1) in
+    omega arith
+
+enum-known-next-2 : tie.Need-enum-known-next-2
+enum-known-next-2 c = search needs
+
+sub-result-3 : tie.Need-sub-result-3
+sub-result-3 c =
+    let f = acted (now (c .before .before .before .before .before .args .s)) (c .before .before .before .before .before .args .at) (c .before .before .before .before .before .args .line) (sym (c .before .before .before .next-at .ensures) ∙ c .before .next2 .given .1) in
+    omega arith
+
+sub-result-4 : tie.Need-sub-result-4
+sub-result-4 c =
+    let f = acted (now (c .before .before .before .before .before .args .s)) (c .before .before .before .before .before .args .at) (c .before .before .before .before .before .args .line) (sym (c .before .before .before .next-at .ensures) ∙ c .before .next2 .given .1) in
+    omega arith
+
+part-result-start-2 : tie.Need-part-result-start-2
+part-result-start-2 c =
+    let f = acted (now (c .before .before .before .before .before .args .s)) (c .before .before .before .before .before .args .at) (c .before .before .before .before .before .args .line) (sym (c .before .before .before .next-at .ensures) ∙ c .before .next2 .given .1) in
+    omega arith
+
+part-result-end-2 : tie.Need-part-result-end-2
+part-result-end-2 c =
+    let f = acted (now (c .before .before .before .before .before .args .s)) (c .before .before .before .before .before .args .at) (c .before .before .before .before .before .args .line) (sym (c .before .before .before .next-at .ensures) ∙ c .before .next2 .given .1) in
+    omega arith
+
+enum-told : tie.Need-enum-told
+enum-told c = search needs
+
+sub-result-5 : tie.Need-sub-result-5
+sub-result-5 c = search needs
+
+part-result-start-3 : tie.Need-part-result-start-3
+part-result-start-3 c = search needs
+
+part-result-end-3 : tie.Need-part-result-end-3
+part-result-end-3 c = search needs
+
+enum-told-2 : tie.Need-enum-told-2
+enum-told-2 c = search needs
+
+sub-result-6 : tie.Need-sub-result-6
+sub-result-6 c = search needs
+
+part-result-start-4 : tie.Need-part-result-start-4
+part-result-start-4 c = search needs
+
+part-result-end-4 : tie.Need-part-result-end-4
+part-result-end-4 c = search needs
+
+returns : tie.Need-returns
+returns c =
+    let s = c .before .before .before .before .before .before in
+    let e = sym (c .before .before .before .before .next-at .ensures) ∙ c .before .before .next .given .1 in
+    rw e (begun (now (s .args .s)) (s .args .at) (s .args .line) e .part)
+
+returns-2 : tie.Need-returns-2
+returns-2 c =
+    let s = c .before .before .before .before .before .before in
+    let e = sym (c .before .before .before .before .next-at .ensures) ∙ c .before .before .next2 .given .1 in
+    rw e (acted (now (s .args .s)) (s .args .at) (s .args .line) e .part)
+
+returns-3 : tie.Need-returns-3
+returns-3 c =
+    let e = sym (c .before .before .before .next-at .ensures) ∙ c .before .enum-told .given .1 in
+    rw e
+
+returns-4 : tie.Need-returns-4
+returns-4 c =
+    let e = sym (c .before .before .before .next-at .ensures) ∙ c .before .enum-told2 .given .1 in
+    rw e
+
+pub part-at-spec : {M : Type 1} → statement M
+part-at-spec =
+    tie.close
+    (tie.spec
+    next-at-requires
+    enum-known-next
+    sub-result
+    sub-result-2
+    part-result-start
+    part-result-end
+    enum-known-next-2
+    sub-result-3
+    sub-result-4
+    part-result-start-2
+    part-result-end-2
+    enum-told
+    sub-result-5
+    part-result-start-3
+    part-result-end-3
+    enum-told-2
+    sub-result-6
+    part-result-start-4
+    part-result-end-4
+    returns
+    returns-2
+    returns-3
+    returns-4)

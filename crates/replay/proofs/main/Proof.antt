@@ -1,0 +1,58 @@
+-- `main`: the text's length is within the bytes that it lends.
+use mathlib.Core.Path.{sym}
+use native.Mathlib.Omega.{arith}
+use lib.Seq.{length-take-le}
+use borrow.Author.Needs.{needs}
+use Rattle.replay.proofs.main.Statement.{statement}
+use Rattle.replay.proofs.main.Tie as tie
+
+slice-aggregate-read-full : tie.Need-slice-aggregate-read-full
+slice-aggregate-read-full c = search needs
+
+read-full-requires : tie.Need-read-full-requires
+read-full-requires c κs = search needs
+
+array-share-prefix-journal : tie.Need-array-share-prefix-journal
+array-share-prefix-journal c = search needs
+
+slice-aggregate-replay : tie.Need-slice-aggregate-replay
+slice-aggregate-replay c = search needs
+
+slice-aggregate-replay-2 : tie.Need-slice-aggregate-replay-2
+slice-aggregate-replay-2 c = search needs
+
+slice-aggregate-replay-3 : tie.Need-slice-aggregate-replay-3
+slice-aggregate-replay-3 c = search needs
+
+replay-requires : tie.Need-replay-requires
+replay-requires c κs = search needs
+
+array-share-prefix-out : tie.Need-array-share-prefix-out
+array-share-prefix-out c = search needs
+
+slice-aggregate-write-all : tie.Need-slice-aggregate-write-all
+slice-aggregate-write-all c =
+    let r = c .before .before .before .replay in
+    sym (length-take-le (r .result) (r .last .1 .1 .0) (omega arith))
+
+write-all-requires : tie.Need-write-all-requires
+write-all-requires c κs = search needs
+
+returns : tie.Need-returns
+returns c = search needs
+
+pub main-spec : {M : Type 1} → statement M
+main-spec =
+    tie.close
+    (tie.spec
+    slice-aggregate-read-full
+    read-full-requires
+    array-share-prefix-journal
+    slice-aggregate-replay
+    slice-aggregate-replay-2
+    slice-aggregate-replay-3
+    replay-requires
+    array-share-prefix-out
+    slice-aggregate-write-all
+    write-all-requires
+    returns)

@@ -1,0 +1,139 @@
+// The run of a journal over a lent table: a fresh table, then each step of the journal, up to its end or the first refused line.
+// Document 01, "Frames and journals".
+ghost use mathlib.Core.Path.{_≡_};
+ghost use Prim.Native.Nat.{_≤_, _<_};
+ghost use lib.ListN.{length};
+ghost use mathlib.Core.Bool.{true};
+ghost use mathlib.Core.List.{[]};
+ghost use Rattle.meaning.specs.Table.{tableWords, countRight, place, freshRefusal, madeFresh};
+ghost use Rattle.meaning.specs.Steps.{refusal, reply, after};
+ghost use Rattle.meaning.specs.Journals.{oneIf, stepsFrom, afterAll, replayed, replayAfter, printed};
+ghost use Rattle.meaning.proofs.TableLaws.{Sound};
+ghost use Rattle.text.specs.Text.{textMost};
+ghost use Rattle.run.specs.Run.{restOutcome, refusedBy, runOutcome, runAfter, textWritten, tableLeft};
+use layout::TABLE_WORDS;
+use meaning::Action;
+use meaning::Next;
+use meaning::Outcome;
+use meaning::Reply;
+use text::TEXT_MOST;
+
+// The most bytes of a journal that the program takes.
+pub const JOURNAL_MOST: usize = 65536;
+
+// 1 for a refused step
+fn count(r: Reply) -> usize
+    ensures { λ k. ⌜ k ≡ refusedBy r ⌝ }
+{
+    match r {
+        Reply::Written => 0,
+        Reply::Carried { a: _, b: _ } => 0,
+        Reply::Purged { removed: _ } => 0,
+        Reply::Refused { number: _ } => 1,
+    }
+}
+
+// One step on a sound table, which it leaves sound: whether it was refused.
+fn step(t: &mut [u32], action: Action) -> usize
+    requires { ⌜ Sound (now t) ⌝ }
+    ensures { λ k. ⌜ (k ≡ oneIf (refusal (now (t .entry)) action)) × (now (t .exit) ≡ after (now (t .entry)) action) × Sound (now (t .exit)) × (k ≤ 1) ⌝ }
+{
+    let r = table::apply_sound(t, action);
+    count(r)
+}
+
+// The steps from a place on, up to the journal's end or the first refused line.
+fn steps(s: &[u8], from: usize, n: u32, t: &mut [u32]) -> Outcome
+    requires { ⌜ Sound (now t) × (0 < from) × (from ≤ length (now s)) ⌝ }
+    ensures { λ r. ⌜ (r ≡ restOutcome n 0 0 (now (t .entry)) (stepsFrom (length (now (s .entry))) (now (s .entry)) from 2)) × (now (t .exit) ≡ afterAll (now (t .entry)) (stepsFrom (length (now (s .entry))) (now (s .entry)) from 2 .steps)) ⌝ }
+{
+    let mut at = from;
+    let mut line = 2;
+    let mut refused = 0;
+    loop {
+        match journal::next_at(s, at, line) {
+            Next::Begin { n: _, next: _ } => {
+                return Outcome::Bad { line, number: 15 };
+            }
+            Next::Act { step: x, next } => {
+                let action = x.action;
+                refused += step(t, action);
+                at = next;
+                line += 1;
+            }
+            Next::Refused { number } => {
+                return Outcome::Bad { line, number };
+            }
+            Next::End => {
+                return Outcome::Done {
+                    n,
+                    steps: line - 2,
+                    refused,
+                };
+            }
+        }
+    }
+}
+
+// A start of n nodes: a fresh table, then the steps after its line.
+fn from_start(s: &[u8], from: usize, n: u32, t: &mut [u32]) -> Outcome
+    requires { ⌜ (length (now t) ≡ tableWords) × (countRight n ≡ true) × (0 < from) × (from ≤ length (now s)) ⌝ }
+    ensures { λ r. ⌜ (r ≡ restOutcome n 0 0 (Rattle.meaning.specs.Table.fresh n) (stepsFrom (length (now (s .entry))) (now (s .entry)) from 2)) × (now (t .exit) ≡ afterAll (Rattle.meaning.specs.Table.fresh n) (stepsFrom (length (now (s .entry))) (now (s .entry)) from 2 .steps)) ⌝ }
+{
+    table::fresh(t, n);
+    steps(s, from, n, t)
+}
+
+// "applies its steps to a fresh table; a refused step is counted and passed over. A refused line ends it"
+// The table is the caller's own where the first line is refused, else a fresh one after the steps before the refused line.
+pub fn run(s: &[u8], t: &mut [u32]) -> Outcome
+    ensures { λ r. ⌜ (r ≡ runOutcome (now (t .entry)) (now (s .entry))) × (now (t .exit) ≡ runAfter (now (t .entry)) (now (s .entry))) ⌝ }
+{
+    if t.len() != TABLE_WORDS {
+        return Outcome::Bad { line: 0, number: 1 };
+    }
+    match journal::next_at(s, 0, 1) {
+        Next::Begin { n, next } => from_start(s, next, n as u32, t),
+        Next::Act { step: _, next: _ } => Outcome::Bad {
+            line: 1,
+            number: 15,
+        },
+        Next::Refused { number } => Outcome::Bad { line: 1, number },
+        Next::End => Outcome::Bad {
+            line: 1,
+            number: 15,
+        },
+    }
+}
+
+// The text of a run's outcome and of the table that it leaves.
+fn told(s: &[u8], t: &mut [u32], out: &mut [u8]) -> usize
+    requires { ⌜ (length (now t) ≡ tableWords) × (textMost ≤ length (now out)) ⌝ }
+    ensures { λ r. ⌜ (r ≡ length (printed (replayed (now (s .entry))) (replayAfter [] (now (s .entry))))) × (now (out .exit) ≡ place 0 (printed (replayed (now (s .entry))) (replayAfter [] (now (s .entry)))) (now (out .entry))) × (now (t .exit) ≡ replayAfter (now (t .entry)) (now (s .entry))) × (r ≤ length (now (out .entry))) ⌝ }
+{
+    let outcome = run(s, t);
+    text::show(out, outcome, t)
+}
+
+// What the program prints of a journal, from place 0 of the lent bytes, and its length.
+pub fn replay(s: &[u8], t: &mut [u32], out: &mut [u8]) -> usize
+    ensures { λ r. ⌜ (r ≡ length (textWritten (now (s .entry)) (now (t .entry)) (now (out .entry)))) × (now (out .exit) ≡ place 0 (textWritten (now (s .entry)) (now (t .entry)) (now (out .entry))) (now (out .entry))) × (now (t .exit) ≡ tableLeft (now (s .entry)) (now (t .entry)) (now (out .entry))) × (r ≤ length (now (out .entry))) ⌝ }
+{
+    if t.len() != TABLE_WORDS {
+        return 0;
+    }
+    if out.len() < TEXT_MOST {
+        return 0;
+    }
+    if JOURNAL_MOST < s.len() {
+        return text::show(
+            out,
+            Outcome::Bad {
+                line: 0,
+                number: 16,
+            },
+            t,
+        );
+    }
+    told(s, t, out)
+}

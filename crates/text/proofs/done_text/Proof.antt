@@ -1,0 +1,70 @@
+-- `done_text` writes nothing where a test of the definition fails, and else all lines.
+use mathlib.Core.Path.{_≡_}
+use mathlib.Core.Bool.{true}
+use native.Mathlib.Omega.{arith}
+use lib.ListN.{length}
+use borrow.Author.Tests.{eq-eqb, ne-eqb, le-leb, lt-leb}
+use denote.Ref.{now}
+use Rattle.meaning.specs.declared.Outcome.the-variants.{Done}
+use Rattle.meaning.specs.Table.{tableWords, nodesMost, count}
+use Rattle.text.specs.Text.{textMost, hasNodes}
+use Rattle.text.proofs.Writing.{wrote-as, wrote-none, count-is, text-none, text-whole}
+use borrow.Author.Needs.{needs}
+use Rattle.text.proofs.done_text.Statement.{statement}
+use Rattle.text.proofs.done_text.Tie as tie
+
+returns : tie.Need-returns
+returns c =
+    let s = c .before .before .before in
+    wrote-as (text-none (now (s .args .out)) (Done (s .args .n) (s .args .steps) (s .args .refused)) (now (s .args .t)) (s .pre) (rw (ne-eqb (length (now (s .args .t))) tableWords (c .if1 .taken)))) (omega arith) (wrote-none (now (s .args .out)) 0 textMost)
+
+cast-if2 : tie.Need-cast-if2
+cast-if2 c = search needs
+
+shared-slice-read-if2 : tie.Need-shared-slice-read-if2
+shared-slice-read-if2 c = search needs
+
+returns-2 : tie.Need-returns-2
+returns-2 c =
+    let s = c .before .before .before .before .before in
+    let e = count-is (now (s .args .t)) in
+    wrote-as (text-none (now (s .args .out)) (Done (s .args .n) (s .args .steps) (s .args .refused)) (now (s .args .t)) (s .pre) (rw (eq-eqb (length (now (s .args .t))) tableWords (c .before .before .if1 .left), lt-leb (count (now (s .args .t))) nodesMost (omega arith)))) (omega arith) (wrote-none (now (s .args .out)) 0 textMost)
+
+cast-if3 : tie.Need-cast-if3
+cast-if3 c = search needs
+
+returns-3 : tie.Need-returns-3
+returns-3 c =
+    let s = c .before .before .before .before .before .before in
+    let e = count-is (now (s .args .t)) in
+    wrote-as (text-none (now (s .args .out)) (Done (s .args .n) (s .args .steps) (s .args .refused)) (now (s .args .t)) (s .pre) (rw (eq-eqb (length (now (s .args .t))) tableWords (c .before .before .before .if1 .left), le-leb (count (now (s .args .t))) nodesMost (omega arith), lt-leb (s .args .n) nodesMost (c .if3 .taken)))) (omega arith) (wrote-none (now (s .args .out)) 0 textMost)
+
+all-lines-requires : tie.Need-all-lines-requires
+all-lines-requires c κs =
+    let e = count-is (now (c .before .before .before .before .before .before .before .args .t)) in
+    (record { long = c .before .before .before .before .if1 .left; few = omega arith }, omega arith, omega arith)
+
+same-length : tie.Need-same-length
+same-length c = search needs
+
+returns-4 : tie.Need-returns-4
+returns-4 c =
+    let s = c .before .before .before .before .before .before .before .before .before .before in
+    let e = count-is (now (s .args .t)) in
+    let h : hasNodes (Done (s .args .n) (s .args .steps) (s .args .refused)) (now (s .args .t)) ≡ true =
+    rw (eq-eqb (length (now (s .args .t))) tableWords (c .before .before .before .before .before .before .before .if1 .left), le-leb (count (now (s .args .t))) nodesMost (omega arith), le-leb (s .args .n) nodesMost (c .before .before .before .before .if3 .left)) in
+    wrote-as (text-whole (now (s .args .out)) (Done (s .args .n) (s .args .steps) (s .args .refused)) (now (s .args .t)) (s .pre) h) (omega arith) (c .before .before .all-lines .ensures)
+
+pub done-text-spec : {M : Type 1} → statement M
+done-text-spec =
+    tie.close
+    (tie.spec
+    returns
+    cast-if2
+    shared-slice-read-if2
+    returns-2
+    cast-if3
+    returns-3
+    all-lines-requires
+    same-length
+    returns-4)

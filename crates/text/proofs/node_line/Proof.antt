@@ -1,0 +1,77 @@
+-- `node_line` is five texts, one after the other, and the law `line-is` says that they are the node's line.
+use mathlib.Core.Path.{ap}
+use mathlib.Core.List.{_++_}
+use Prim.Native.Nat.{ℕ}
+use native.Mathlib.Omega.{arith}
+use denote.Ref.{now}
+use Rattle.meaning.specs.Rows.{ascii}
+use Rattle.meaning.specs.Table.{summaryAt, acksAt, part, count}
+use Rattle.meaning.specs.Journals.{spaced}
+use Rattle.text.specs.Text.{Wrote}
+use Rattle.text.proofs.Writing.{wrote-as, wrote-then, line-is}
+use borrow.Author.Needs.{needs}
+use Rattle.text.proofs.node_line.Statement.{statement}
+use Rattle.text.proofs.node_line.Tie as tie
+
+number-requires : tie.Need-number-requires
+number-requires c κs = search needs
+
+slice-aggregate-vector : tie.Need-slice-aggregate-vector
+slice-aggregate-vector c = search needs
+
+summary-at-requires : tie.Need-summary-at-requires
+summary-at-requires c κs = search needs
+
+vector-requires : tie.Need-vector-requires
+vector-requires c κs = search needs
+
+slice-aggregate-vector-2 : tie.Need-slice-aggregate-vector-2
+slice-aggregate-vector-2 c = search needs
+
+acks-at-requires : tie.Need-acks-at-requires
+acks-at-requires c κs = search needs
+
+vector-requires-2 : tie.Need-vector-requires-2
+vector-requires-2 c κs = search needs
+
+held-part-requires : tie.Need-held-part-requires
+held-part-requires c κs = search needs
+
+put-requires : tie.Need-put-requires
+put-requires c κs = search needs
+
+same-length : tie.Need-same-length
+same-length c = search needs
+
+returns : tie.Need-returns
+returns c =
+    let s = c .before .before .before .before .before .before .before .before .before .before .before .before .before .before .before .before .before .before .before .before .before .before .before .before .before .before in
+    let t = now (s .args .t) in
+    let k₁ = c .before .before .before .before .before .before .before .before .before .before .before .before .before .before .before .before .before .before .before .before .before .before .number .kept .0 in
+    let w₁ = c .before .before .before .before .before .before .before .before .before .before .before .before .before .before .before .before .before .before .before .before .before .before .number .ensures .within in
+    let k₂ = c .before .before .before .before .before .before .before .before .before .before .before .before .before .before .before .before .vector .kept .0 in
+    let w₂ = c .before .before .before .before .before .before .before .before .before .before .before .before .before .before .before .before .vector .ensures .within in
+    let k₃ = c .before .before .before .before .before .before .before .before .before .before .vector2 .kept .0 in
+    let w₃ = c .before .before .before .before .before .before .before .before .before .before .vector2 .ensures .within in
+    let summary : Wrote _ _ (ascii " S" ++ spaced (part (summaryAt (s .args .p)) (count t) t)) 338 _ _ =
+    wrote-as (ap (λ (a : ℕ). ascii " S" ++ spaced (part a (count t) t)) (c .before .before .before .before .before .before .before .before .before .before .before .before .before .before .before .before .before .summary-at .ensures)) (omega arith) (c .before .before .before .before .before .before .before .before .before .before .before .before .before .before .before .before .vector .ensures) in
+    let acks : Wrote _ _ (ascii " K" ++ spaced (part (acksAt (s .args .p)) (count t) t)) 338 _ _ =
+    wrote-as (ap (λ (a : ℕ). ascii " K" ++ spaced (part a (count t) t)) (c .before .before .before .before .before .before .before .before .before .before .before .acks-at .ensures)) (omega arith) (c .before .before .before .before .before .before .before .before .before .before .vector2 .ensures) in
+    wrote-as (line-is t (s .args .p)) (omega arith)
+    (wrote-then (omega arith) (c .before .before .before .before .before .before .before .before .before .before .before .before .before .before .before .before .before .before .before .before .before .before .number .ensures) (wrote-then (omega (arith, s .pre, k₁, w₁)) summary (wrote-then (omega (arith, s .pre, k₁, w₁, k₂, w₂)) acks (wrote-then (omega (arith, s .pre, k₁, w₁, k₂, w₂, k₃, w₃)) (c .before .before .before .before .before .before .held-part .ensures) (c .before .before .put .ensures)))))
+
+pub node-line-spec : {M : Type 1} → statement M
+node-line-spec =
+    tie.close
+    (tie.spec
+    number-requires
+    slice-aggregate-vector
+    summary-at-requires
+    vector-requires
+    slice-aggregate-vector-2
+    acks-at-requires
+    vector-requires-2
+    held-part-requires
+    put-requires
+    same-length
+    returns)
