@@ -19,6 +19,5 @@ pub mod AccountJournals
 pub mod VerdictLaws
 pub mod VerdictTheorems
 pub mod OneReply
-pub mod FrameLaws
 pub mod FrameInverses
 pub mod FrameTheorems
