@@ -30,7 +30,8 @@ pub pair-low : (l : List ℕ) (k : ℕ) → Digit l (2 * k) → 15 < digitValue 
 unfolding pairAt
 pair-low l k p q = cc (lt-ltb (digitValue (getD l (2 * k) 0)) 16 p, le-ltb (digitValue (getD l (2 * k + 1) 0)) 16 q)
 
-pub pair-both : (l : List ℕ) (k : ℕ) → Digit l (2 * k) → Digit l (2 * k + 1) → 16 * digitValue (getD l (2 * k) 0) + digitValue (getD l (2 * k + 1) 0) ≡ pairAt l k
+pub pair-both : (l : List ℕ) (k : ℕ) → Digit l (2 * k) → Digit l (2 * k + 1) →
+    16 * digitValue (getD l (2 * k) 0) + digitValue (getD l (2 * k + 1) 0) ≡ pairAt l k
 unfolding pairAt
 pair-both l k p q = cc (lt-ltb (digitValue (getD l (2 * k) 0)) 16 p, lt-ltb (digitValue (getD l (2 * k + 1) 0)) 16 q)
 
@@ -100,7 +101,8 @@ scanned-odd l p =
     let high = ltb-true 15 (digitValue (getD l (length l - 1) 0)) (and-right (eqb (length l % 2) 1) (ltb 15 (digitValue (getD l (length l - 1) 0))) p) in
     scanned-stray l (length l - 1) (omega arith) high
 
-pub scanned-end : (l : List ℕ) (k sum : ℕ) → k ≡ length l / 2 → ((i : ℕ) → i < 2 * k → Digit l i) → oddStray l ≡ false → sum ≡ total (take k (bytesOf l)) → sum ≡ scanned l
+pub scanned-end : (l : List ℕ) (k sum : ℕ) → k ≡ length l / 2 → ((i : ℕ) → i < 2 * k → Digit l i) → oddStray l ≡ false →
+    sum ≡ total (take k (bytesOf l)) → sum ≡ scanned l
 unfolding scanned oddStray
 scanned-end l k sum h digits p s =
     let whole : take k (bytesOf l) ≡ bytesOf l = take-all k (bytesOf l) (omega (arith, length-bytesOf l)) in
@@ -260,7 +262,8 @@ module _ (line : ℕ) (l : List ℕ) where
   pub line-empty : (sum : ℕ) → sum ≡ scanned l → sum ≤ 255 → length l < 2 → Refused 11 ≡ readLine line l
   line-empty sum e h p = read-refused line 10 l (refused-empty l (scanned-low l sum e h .0) p)
 
-  pub line-length : (sum kind : ℕ) → sum ≡ scanned l → sum ≤ 255 → 2 ≤ length l → kind ≡ fieldAt l 0 1 → (length l ≡ lengthOf kind → ⊥) → Refused 11 ≡ readLine line l
+  pub line-length : (sum kind : ℕ) → sum ≡ scanned l → sum ≤ 255 → 2 ≤ length l → kind ≡ fieldAt l 0 1 → (length l ≡ lengthOf kind → ⊥) →
+      Refused 11 ≡ readLine line l
   unfolding lengthOf
   line-length sum kind e h p k q =
       let known : kind ≡ lineKind (bytesOf l) = k ∙ kind-field l in
@@ -303,7 +306,8 @@ module _ (line : ℕ) (l : List ℕ) where
     unfolding faultOf
     line-fault n e p = go n e p
       where
-        same : (above wrong : Bool) (rest : ℕ) → (given above 11 (given wrong 13 0) ≡ 0 → ⊥) → given above 11 (given wrong 13 rest) ≡ given above 11 (given wrong 13 0)
+        same : (above wrong : Bool) (rest : ℕ) → (given above 11 (given wrong 13 0) ≡ 0 → ⊥) →
+            given above 11 (given wrong 13 rest) ≡ given above 11 (given wrong 13 0)
         same true wrong rest q = refl
         same false true rest q = refl
         same false false rest q = absurd (q refl)

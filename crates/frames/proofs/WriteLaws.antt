@@ -187,5 +187,6 @@ put-session t₀ t₁ t₂ t₃ t₄ t₅ t₆ t₇ s₁ s₂ s₃ s₄ s₅ s�
     wrote-all t₀ t₆ t₇ b₆ 12 s₆ refl (omega arith) w₆ q
 
 -- the answer for an action, by the case that it is
-pub by-case : (out out′ : List ℕ) (r : Framed) (x y : Action) → x ≡ y → (r ≡ frameReply out y) × (out′ ≡ frameAfter out y) → (r ≡ frameReply out x) × (out′ ≡ frameAfter out x)
+pub by-case : (out out′ : List ℕ) (r : Framed) (x y : Action) → x ≡ y → (r ≡ frameReply out y) × (out′ ≡ frameAfter out y) →
+    (r ≡ frameReply out x) × (out′ ≡ frameAfter out x)
 by-case out out′ r x y e p = rw e p

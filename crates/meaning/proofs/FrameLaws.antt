@@ -233,7 +233,8 @@ bytes-highFirst zero v = tt
 bytes-highFirst (suc k) v = bytes-append (highFirst k (v / 256)) (v % 256 ∷ []) (bytes-highFirst k (v / 256)) (omega arith, tt)
 
 -- what a writer answers and leaves
-pub framed-right : (out : List ℕ) (x : Action) → writerRefusal out x ≡ 0 → (Length (length (frame x)) ≡ frameReply out x) × (place 0 (frame x) out ≡ frameAfter out x)
+pub framed-right : (out : List ℕ) (x : Action) → writerRefusal out x ≡ 0 →
+    (Length (length (frame x)) ≡ frameReply out x) × (place 0 (frame x) out ≡ frameAfter out x)
 unfolding frameReply frameAfter
 framed-right out x p = (rw p refl, rw p refl)
 
@@ -241,7 +242,8 @@ pub framed-wrong : (out : List ℕ) (x : Action) (k : ℕ) → writerRefusal out
 unfolding frameReply frameAfter
 framed-wrong out x k p = (rw p refl, rw p refl)
 
-pub started-right : (out : List ℕ) (n : ℕ) → starterRefusal out n ≡ 0 → (Length (length (startFrame n)) ≡ startReply out n) × (place 0 (startFrame n) out ≡ startAfter out n)
+pub started-right : (out : List ℕ) (n : ℕ) → starterRefusal out n ≡ 0 →
+    (Length (length (startFrame n)) ≡ startReply out n) × (place 0 (startFrame n) out ≡ startAfter out n)
 unfolding startReply startAfter
 started-right out n p = (rw p refl, rw p refl)
 
@@ -307,7 +309,8 @@ count-wrong n p = go (leb 2 n) (leb n 16) refl refl
 pub framed-outcome : (out : List ℕ) (x : Action) → outcomeAbove x ≡ true → (Unframed 2 ≡ frameReply out x) × (out ≡ frameAfter out x)
 framed-outcome out x p = framed-wrong out x 1 (writer-outcome out x p)
 
-pub framed-few : (out : List ℕ) (x : Action) (n : ℕ) → outcomeAbove x ≡ false → length (frame x) ≡ n → length out < n → (Unframed 17 ≡ frameReply out x) × (out ≡ frameAfter out x)
+pub framed-few : (out : List ℕ) (x : Action) (n : ℕ) → outcomeAbove x ≡ false → length (frame x) ≡ n → length out < n →
+    (Unframed 17 ≡ frameReply out x) × (out ≡ frameAfter out x)
 framed-few out x n p e h = framed-wrong out x 16 (writer-few out x p (rw e h))
 
 pub framed-full : (out out′ : List ℕ) (x : Action) (n : ℕ) → outcomeAbove x ≡ false → length (frame x) ≡ n → n ≤ length out → out′ ≡ place 0 (frame x) out

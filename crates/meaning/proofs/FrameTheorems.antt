@@ -86,7 +86,8 @@ action-body : (x : Action) → wide x ≡ true → Back (body (kindOf x) (fields
 unfolding wide
 action-body x p = back (kindOf x) (fieldsOf x) (omega (arith, kind-known x .1)) (fields-long x) p
 
-read-body : (x : Action) (line : ℕ) → wide x ≡ true → outcomeAbove x ≡ false → readLine line (body (kindOf x) (fieldsOf x)) ≡ Act (record { line = line; action = x })
+read-body : (x : Action) (line : ℕ) → wide x ≡ true → outcomeAbove x ≡ false →
+    readLine line (body (kindOf x) (fieldsOf x)) ≡ Act (record { line = line; action = x })
 read-body x line p q =
     let l = body (kindOf x) (fieldsOf x) in
     let b = action-body x p in
@@ -215,7 +216,8 @@ start-read : (line : ℕ) (l : List ℕ) (n : ℕ) → readLine line l ≡ Begin
     → (lineRefusal l ≡ 0) × (lineKind (bytesOf l) ≡ 0) × (n ≡ getD (lineFields (bytesOf l)) 0 0)
 start-read line l n e = go (lineRefusal l) (eqb (lineKind (bytesOf l)) 0) refl refl
   where
-    go : (k : ℕ) (b : Bool) → lineRefusal l ≡ k → eqb (lineKind (bytesOf l)) 0 ≡ b → (lineRefusal l ≡ 0) × (lineKind (bytesOf l) ≡ 0) × (n ≡ getD (lineFields (bytesOf l)) 0 0)
+    go : (k : ℕ) (b : Bool) → lineRefusal l ≡ k → eqb (lineKind (bytesOf l)) 0 ≡ b →
+        (lineRefusal l ≡ 0) × (lineKind (bytesOf l) ≡ 0) × (n ≡ getD (lineFields (bytesOf l)) 0 0)
     go (suc k) b p q = let r = read-refused line k l p in let z : _≡_ {A = ℕ} 0 1 = cc in absurd (omega arith)
     go zero false p q =
         let r = read-act line l p (eqb-false (lineKind (bytesOf l)) 0 q) in
@@ -228,13 +230,13 @@ start-read line l n e = go (lineRefusal l) (eqb (lineKind (bytesOf l)) 0) refl r
 
 -- A line that reads as a step is that step's frame without its LF. The step's fields are as wide as in the frame, its outcome is one of the four,
 -- and its line number is the one told.
-pub record Framed (line : ℕ) (l : List ℕ) (s : Step) : Type 0 where
+pub record IsFrame (line : ℕ) (l : List ℕ) (s : Step) : Type 0 where
   pub spells : frame (s .action) ≡ l ++ (10 ∷ [])
   pub fits : wide (s .action) ≡ true
   pub within : outcomeAbove (s .action) ≡ false
   pub told : s .line ≡ line
 
-pub step-framed : (line : ℕ) (l : List ℕ) (s : Step) → readLine line l ≡ Act s → Framed line l s
+pub step-framed : (line : ℕ) (l : List ℕ) (s : Step) → readLine line l ≡ Act s → IsFrame line l s
 unfolding frame wide lineFields
 step-framed line l s e =
     let r = step-read line l s e in

@@ -15,10 +15,14 @@ returns : tie.Need-returns
 returns c = search needs
 
 returns-2 : tie.Need-returns-2
-returns-2 c = started-count (c .before .before .args .out .now) (c .before .before .args .n) (count-wrong (c .before .before .args .n) (omega arith))
+returns-2 c =
+    let start = c .before .before in
+    started-count (start .args .out .now) (start .args .n) (count-wrong (start .args .n) (omega arith))
 
 returns-3 : tie.Need-returns-3
-returns-3 c = started-count (c .before .before .before .args .out .now) (c .before .before .before .args .n) (count-wrong (c .before .before .before .args .n) (omega arith))
+returns-3 c =
+    let start = c .before .before .before in
+    started-count (start .args .out .now) (start .args .n) (count-wrong (start .args .n) (omega arith))
 
 pub write-start-spec : {M : Type 1} → statement M
 write-start-spec = tie.close (tie.spec start-requires same-length returns returns-2 returns-3)

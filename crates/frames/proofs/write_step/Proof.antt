@@ -28,24 +28,36 @@ same-length c = search needs
 
 returns : tie.Need-returns
 returns c =
-    let x = c .before .before .before .before .before .action .given .0 in
-    by-case (c .before .before .before .before .before .before .before .before .args .out .now) (c .before .before .write .last .0) (c .before .before .write .result) (c .before .before .before .before .before .before .before .before .args .step .action) (Write (x .0) (x .1 .0) (x .1 .1 .0) (x .1 .1 .1 .0)) (c .before .before .before .before .before .action .given .1) (c .before .before .write .ensures)
+    let at-write = c .before .before in
+    let at-action = at-write .before .before .before in
+    let start = at-action .before .before .before in
+    let x = at-action .action .given .0 in
+    by-case (start .args .out .now) (at-write .write .last .0) (at-write .write .result) (start .args .step .action)
+    (Write (x .0) (x .1 .0) (x .1 .1 .0) (x .1 .1 .1 .0)) (at-action .action .given .1) (at-write .write .ensures)
 
 same-length-2 : tie.Need-same-length-2
 same-length-2 c = search needs
 
 returns-2 : tie.Need-returns-2
 returns-2 c =
-    let x = c .before .before .before .before .before .action2 .given .0 in
-    by-case (c .before .before .before .before .before .before .before .before .args .out .now) (c .before .before .session .last .0) (c .before .before .session .result) (c .before .before .before .before .before .before .before .before .args .step .action) (Session (x .0) (x .1 .0) (x .1 .1 .0) (x .1 .1 .1 .0) (x .1 .1 .1 .1 .0)) (c .before .before .before .before .before .action2 .given .1) (c .before .before .session .ensures)
+    let at-session = c .before .before in
+    let at-action2 = at-session .before .before .before in
+    let start = at-action2 .before .before .before in
+    let x = at-action2 .action2 .given .0 in
+    by-case (start .args .out .now) (at-session .session .last .0) (at-session .session .result) (start .args .step .action)
+    (Session (x .0) (x .1 .0) (x .1 .1 .0) (x .1 .1 .1 .0) (x .1 .1 .1 .1 .0)) (at-action2 .action2 .given .1) (at-session .session .ensures)
 
 same-length-3 : tie.Need-same-length-3
 same-length-3 c = search needs
 
 returns-3 : tie.Need-returns-3
 returns-3 c =
-    let x = c .before .before .before .before .before .action3 .given .0 in
-    by-case (c .before .before .before .before .before .before .before .before .args .out .now) (c .before .before .purge .last .0) (c .before .before .purge .result) (c .before .before .before .before .before .before .before .before .args .step .action) (Purge (x .0)) (c .before .before .before .before .before .action3 .given .1) (c .before .before .purge .ensures)
+    let at-purge = c .before .before in
+    let at-action3 = at-purge .before .before .before in
+    let start = at-action3 .before .before .before in
+    let x = at-action3 .action3 .given .0 in
+    by-case (start .args .out .now) (at-purge .purge .last .0) (at-purge .purge .result) (start .args .step .action) (Purge (x .0))
+    (at-action3 .action3 .given .1) (at-purge .purge .ensures)
 
 pub write-step-spec : {M : Type 1} → statement M
 write-step-spec =

@@ -25,7 +25,14 @@ same-length : tie.Need-same-length
 same-length c = search needs
 
 returns : tie.Need-returns
-returns c = put-last (c .before .before .before .before .before .before .args .out .now) (c .before .before .put-byte .last .0) (c .before .before .before .before .before .before .args .at) (c .before .before .before .wrapping-sub-u8 .result) ((256 - c .before .before .before .before .before .before .args .sum) % 256) (c .before .before .before .before .before .before .pre) (negated (c .before .before .before .wrapping-sub-u8 .result) (c .before .before .before .before .before .before .args .sum) (omega (arith, c .before .before .before .wrapping-sub-u8 .ok)) (omega (arith, c .before .before .before .before .before .before .fits .sum)) (c .before .before .before .wrapping-sub-u8 .ensures)) (c .before .before .put-byte .ensures)
+returns c =
+    let at-put-byte = c .before .before in
+    let at-wrapping-sub-u8 = at-put-byte .before in
+    let start = at-wrapping-sub-u8 .before .before .before in
+    put-last (start .args .out .now) (at-put-byte .put-byte .last .0) (start .args .at) (at-wrapping-sub-u8 .wrapping-sub-u8 .result)
+    ((256 - start .args .sum) % 256) (start .pre)
+    (negated (at-wrapping-sub-u8 .wrapping-sub-u8 .result) (start .args .sum) (omega (arith, at-wrapping-sub-u8 .wrapping-sub-u8 .ok)) (omega (arith, start .fits .sum)) (at-wrapping-sub-u8 .wrapping-sub-u8 .ensures))
+    (at-put-byte .put-byte .ensures)
 
 pub finish-spec : {M : Type 1} → statement M
 finish-spec =

@@ -10,7 +10,9 @@ use Rattle.frames.proofs.write.purge.Tie as tie
 
 returns : tie.Need-returns
 unfolding outcomeAbove
-returns c = framed-few (c .before .before .args .out .now) (Purge (c .before .before .args .node)) 7 refl (length-purge (c .before .before .args .node)) (c .if1 .taken)
+returns c =
+    let start = c .before .before in
+    framed-few (start .args .out .now) (Purge (start .args .node)) 7 refl (length-purge (start .args .node)) (c .if1 .taken)
 
 put-short-requires : tie.Need-put-short-requires
 unfolding widths
@@ -21,7 +23,11 @@ same-length c = search needs
 
 returns-2 : tie.Need-returns-2
 unfolding outcomeAbove frame
-returns-2 c = framed-full (c .before .before .before .before .before .before .args .out .now) (c .before .before .put-short .last .0) (Purge (c .before .before .before .before .before .before .args .node)) 7 refl (length-purge (c .before .before .before .before .before .before .args .node)) (c .before .before .before .before .if1 .left) (c .before .before .put-short .ensures)
+returns-2 c =
+    let at-put-short = c .before .before in
+    let start = at-put-short .before .before .before .before in
+    framed-full (start .args .out .now) (at-put-short .put-short .last .0) (Purge (start .args .node)) 7 refl (length-purge (start .args .node))
+    (c .before .before .before .before .if1 .left) (at-put-short .put-short .ensures)
 
 pub purge-spec : {M : Type 1} → statement M
 purge-spec = tie.close (tie.spec returns put-short-requires same-length returns-2)

@@ -40,11 +40,16 @@ loop-less c = omega arith
 
 loop-again : tie.Need-loop-again Inv-loop μ-loop
 loop-again c =
-    let whole = place (2 * c .before .before .before .before .before .before .before .before .args .at) (spelled (highFirst (c .before .before .before .before .before .before .before .before .args .width) (c .before .before .before .before .before .before .before .before .args .value))) (c .before .before .before .before .before .before .before .before .args .out .now) in
-    let sums = (c .before .before .before .before .before .before .before .before .args .sum + total (highFirst (c .before .before .before .before .before .before .before .before .args .width) (c .before .before .before .before .before .before .before .before .args .value))) % 256 in
-    let long : length (c .before .before .before .put-byte .last .0) ≡ length (c .before .before .before .before .before .before .before .before .args .out .now) = omega (arith, c .before .before .before .put-byte .kept .0) in
-    let put = put-turn (c .before .before .before .before .before .before .loop .out) (c .before .before .before .put-byte .last .0) whole (c .before .before .before .before .before .before .before .before .args .at) (c .before .before .before .before .before .before .loop .k) (c .before .before .before .before .before .before .loop .k - 1) (c .before .before .before .before .before .before .loop .rest) (omega arith) (omega arith) (c .before .before .before .before .before .before .loop .inv .3) (c .before .before .before .put-byte .ensures) in
-    let add = sum-turn (c .before .before .before .before .before .before .loop .added) (c .wrapping-add-u8 .result) (c .before .before .before .before .before .before .loop .k) (c .before .before .before .before .before .before .loop .k - 1) (c .before .before .before .before .before .before .loop .rest) sums (omega arith) (c .before .before .before .before .before .before .loop .inv .4) (c .wrapping-add-u8 .ensures) in
+    let at-put-byte = c .before .before .before in
+    let at-loop = at-put-byte .before .before .before in
+    let start = at-loop .before .before in
+    let whole = place (2 * start .args .at) (spelled (highFirst (start .args .width) (start .args .value))) (start .args .out .now) in
+    let sums = (start .args .sum + total (highFirst (start .args .width) (start .args .value))) % 256 in
+    let long : length (at-put-byte .put-byte .last .0) ≡ length (start .args .out .now) = omega (arith, at-put-byte .put-byte .kept .0) in
+    let put = put-turn (at-loop .loop .out) (at-put-byte .put-byte .last .0) whole (start .args .at) (at-loop .loop .k) (at-loop .loop .k - 1)
+    (at-loop .loop .rest) (omega arith) (omega arith) (at-loop .loop .inv .3) (at-put-byte .put-byte .ensures) in
+    let add = sum-turn (at-loop .loop .added) (c .wrapping-add-u8 .result) (at-loop .loop .k) (at-loop .loop .k - 1) (at-loop .loop .rest) sums
+    (omega arith) (at-loop .loop .inv .4) (c .wrapping-add-u8 .ensures) in
     (omega arith, omega (arith, c .wrapping-add-u8 .ok), long, put, add)
 
 same-length : tie.Need-same-length Inv-loop μ-loop
@@ -52,10 +57,12 @@ same-length c = c .before .loop .inv .2
 
 returns : tie.Need-returns Inv-loop μ-loop
 returns c =
-    let none : c .before .loop .k ≡ 0 = omega arith in
-    let whole = place (2 * c .before .before .before .args .at) (spelled (highFirst (c .before .before .before .args .width) (c .before .before .before .args .value))) (c .before .before .before .args .out .now) in
-    let sums = (c .before .before .before .args .sum + total (highFirst (c .before .before .before .args .width) (c .before .before .before .args .value))) % 256 in
-    (sum-end (c .before .loop .added) (c .before .loop .k) (c .before .loop .rest) sums none (c .before .loop .inv .1) (c .before .loop .inv .4), put-end (c .before .loop .out) whole (c .before .before .before .args .at) (c .before .loop .k) (c .before .loop .rest) none (c .before .loop .inv .3))
+    let at-loop = c .before in
+    let start = at-loop .before .before in
+    let none : at-loop .loop .k ≡ 0 = omega arith in
+    let whole = place (2 * start .args .at) (spelled (highFirst (start .args .width) (start .args .value))) (start .args .out .now) in
+    let sums = (start .args .sum + total (highFirst (start .args .width) (start .args .value))) % 256 in
+    (sum-end (at-loop .loop .added) (at-loop .loop .k) (at-loop .loop .rest) sums none (at-loop .loop .inv .1) (at-loop .loop .inv .4), put-end (at-loop .loop .out) whole (start .args .at) (at-loop .loop .k) (at-loop .loop .rest) none (at-loop .loop .inv .3))
 
 pub put-spec : {M : Type 1} → statement M
 put-spec =

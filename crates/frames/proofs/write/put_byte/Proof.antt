@@ -31,7 +31,11 @@ same-length : tie.Need-same-length
 same-length c = search needs
 
 returns : tie.Need-returns
-returns c = put-pair (c .before .before .before .args .out .now) (c .before .before .before .args .at) (c .before .before .before .args .b) (c .before .digit-of .result) (c .digit-of2 .result) (c .before .before .before .pre) (c .before .digit-of .ensures) (c .digit-of2 .ensures)
+returns c =
+    let at-digit-of = c .before in
+    let start = at-digit-of .before .before in
+    put-pair (start .args .out .now) (start .args .at) (start .args .b) (at-digit-of .digit-of .result) (c .digit-of2 .result) (start .pre)
+    (at-digit-of .digit-of .ensures) (c .digit-of2 .ensures)
 
 pub put-byte-spec : {M : Type 1} → statement M
 put-byte-spec =

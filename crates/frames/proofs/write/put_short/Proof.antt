@@ -18,7 +18,14 @@ same-length : tie.Need-same-length
 same-length c = search needs
 
 returns : tie.Need-returns
-returns c = put-short (c .before .before .before .before .before .before .before .before .before .before .before .before .before .args .out .now) (c .before .before .before .before .before .before .before .before .before .before .put .last .0) (c .before .before .before .before .before .before .put2 .last .0) (c .before .before .finish .last .0) (c .before .before .before .before .before .before .before .before .before .before .put .result) (c .before .before .before .before .before .before .put2 .result) (c .before .before .before .before .before .before .before .before .before .before .before .before .before .args .kind) (c .before .before .before .before .before .before .before .before .before .before .before .before .before .args .n) (c .before .before .before .before .before .before .before .before .before .before .before .before .before .pre .0) (omega (arith, c .before .before .before .before .before .before .before .before .before .before .before .before .before .fits .kind)) (c .before .before .before .before .before .before .before .before .before .before .before .before .before .pre .1) (c .before .before .before .before .before .before .before .before .before .before .put .ensures) (c .before .before .before .before .before .before .put2 .ensures) (c .before .before .finish .ensures)
+returns c =
+    let at-finish = c .before .before in
+    let at-put2 = at-finish .before .before .before .before in
+    let at-put = at-put2 .before .before .before .before in
+    let start = at-put .before .before .before in
+    put-short (start .args .out .now) (at-put .put .last .0) (at-put2 .put2 .last .0) (at-finish .finish .last .0) (at-put .put .result)
+    (at-put2 .put2 .result) (start .args .kind) (start .args .n) (start .pre .0) (omega (arith, start .fits .kind)) (start .pre .1)
+    (at-put .put .ensures) (at-put2 .put2 .ensures) (at-finish .finish .ensures)
 
 pub put-short-spec : {M : Type 1} → statement M
 put-short-spec =

@@ -26,7 +26,19 @@ same-length : tie.Need-same-length
 same-length c = search needs
 
 returns : tie.Need-returns
-returns c = put-write (c .before .before .before .before .before .before .before .before .before .before .before .before .before .before .before .before .before .before .before .before .before .before .before .before .before .args .out .now) (c .before .before .before .before .before .before .before .before .before .before .before .before .before .before .before .before .before .before .before .before .before .before .put .last .0) (c .before .before .before .before .before .before .before .before .before .before .before .before .before .before .before .before .before .before .put2 .last .0) (c .before .before .before .before .before .before .before .before .before .before .before .before .before .before .put3 .last .0) (c .before .before .before .before .before .before .before .before .before .before .put4 .last .0) (c .before .before .before .before .before .before .put5 .last .0) (c .before .before .finish .last .0) (c .before .before .before .before .before .before .before .before .before .before .before .before .before .before .before .before .before .before .before .before .before .before .put .result) (c .before .before .before .before .before .before .before .before .before .before .before .before .before .before .before .before .before .before .put2 .result) (c .before .before .before .before .before .before .before .before .before .before .before .before .before .before .put3 .result) (c .before .before .before .before .before .before .before .before .before .before .put4 .result) (c .before .before .before .before .before .before .put5 .result) (c .before .before .before .before .before .before .before .before .before .before .before .before .before .before .before .before .before .before .before .before .before .before .before .before .before .args .node) (c .before .before .before .before .before .before .before .before .before .before .before .before .before .before .before .before .before .before .before .before .before .before .before .before .before .args .timestamp) (c .before .before .before .before .before .before .before .before .before .before .before .before .before .before .before .before .before .before .before .before .before .before .before .before .before .args .block) (c .before .before .before .before .before .before .before .before .before .before .before .before .before .before .before .before .before .before .before .before .before .before .before .before .before .args .verdict) (c .before .before .before .before .before .before .before .before .before .before .before .before .before .before .before .before .before .before .before .before .before .before .before .before .before .pre) (c .before .before .before .before .before .before .before .before .before .before .before .before .before .before .before .before .before .before .before .before .before .before .put .ensures) (c .before .before .before .before .before .before .before .before .before .before .before .before .before .before .before .before .before .before .put2 .ensures) (c .before .before .before .before .before .before .before .before .before .before .before .before .before .before .put3 .ensures) (c .before .before .before .before .before .before .before .before .before .before .put4 .ensures) (c .before .before .before .before .before .before .put5 .ensures) (c .before .before .finish .ensures)
+returns c =
+    let at-finish = c .before .before in
+    let at-put5 = at-finish .before .before .before .before in
+    let at-put4 = at-put5 .before .before .before .before in
+    let at-put3 = at-put4 .before .before .before .before in
+    let at-put2 = at-put3 .before .before .before .before in
+    let at-put = at-put2 .before .before .before .before in
+    let start = at-put .before .before .before in
+    put-write (start .args .out .now) (at-put .put .last .0) (at-put2 .put2 .last .0) (at-put3 .put3 .last .0) (at-put4 .put4 .last .0)
+    (at-put5 .put5 .last .0) (at-finish .finish .last .0) (at-put .put .result) (at-put2 .put2 .result) (at-put3 .put3 .result)
+    (at-put4 .put4 .result) (at-put5 .put5 .result) (start .args .node) (start .args .timestamp) (start .args .block) (start .args .verdict)
+    (start .pre) (at-put .put .ensures) (at-put2 .put2 .ensures) (at-put3 .put3 .ensures) (at-put4 .put4 .ensures) (at-put5 .put5 .ensures)
+    (at-finish .finish .ensures)
 
 pub put-write-spec : {M : Type 1} → statement M
 put-write-spec =

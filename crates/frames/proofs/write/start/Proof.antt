@@ -7,7 +7,9 @@ use Rattle.frames.proofs.write.start.Statement.{statement}
 use Rattle.frames.proofs.write.start.Tie as tie
 
 returns : tie.Need-returns
-returns c = started-few (c .before .before .args .out .now) (c .before .before .args .n) (c .before .before .pre) (c .if1 .taken)
+returns c =
+    let start = c .before .before in
+    started-few (start .args .out .now) (start .args .n) (start .pre) (c .if1 .taken)
 
 put-short-requires : tie.Need-put-short-requires
 unfolding widths
@@ -18,7 +20,11 @@ same-length c = search needs
 
 returns-2 : tie.Need-returns-2
 unfolding startFrame
-returns-2 c = started-full (c .before .before .before .before .before .before .args .out .now) (c .before .before .put-short .last .0) (c .before .before .before .before .before .before .args .n) (c .before .before .before .before .before .before .pre) (c .before .before .before .before .if1 .left) (c .before .before .put-short .ensures)
+returns-2 c =
+    let at-put-short = c .before .before in
+    let start = at-put-short .before .before .before .before in
+    started-full (start .args .out .now) (at-put-short .put-short .last .0) (start .args .n) (start .pre)
+    (c .before .before .before .before .if1 .left) (at-put-short .put-short .ensures)
 
 pub start-spec : {M : Type 1} → statement M
 start-spec = tie.close (tie.spec returns put-short-requires same-length returns-2)

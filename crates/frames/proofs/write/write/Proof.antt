@@ -9,7 +9,10 @@ use Rattle.frames.proofs.write.write.Tie as tie
 
 returns : tie.Need-returns
 unfolding outcomeAbove
-returns c = framed-few (c .before .before .args .out .now) (Write (c .before .before .args .node) (c .before .before .args .timestamp) (c .before .before .args .block) (c .before .before .args .verdict)) 25 refl (length-write (c .before .before .args .node) (c .before .before .args .timestamp) (c .before .before .args .block) (c .before .before .args .verdict)) (c .if1 .taken)
+returns c =
+    let start = c .before .before in
+    framed-few (start .args .out .now) (Write (start .args .node) (start .args .timestamp) (start .args .block) (start .args .verdict)) 25 refl
+    (length-write (start .args .node) (start .args .timestamp) (start .args .block) (start .args .verdict)) (c .if1 .taken)
 
 put-write-requires : tie.Need-put-write-requires
 put-write-requires c κs = search needs
@@ -19,7 +22,13 @@ same-length c = search needs
 
 returns-2 : tie.Need-returns-2
 unfolding outcomeAbove
-returns-2 c = framed-full (c .before .before .before .before .before .before .args .out .now) (c .before .before .put-write .last .0) (Write (c .before .before .before .before .before .before .args .node) (c .before .before .before .before .before .before .args .timestamp) (c .before .before .before .before .before .before .args .block) (c .before .before .before .before .before .before .args .verdict)) 25 refl (length-write (c .before .before .before .before .before .before .args .node) (c .before .before .before .before .before .before .args .timestamp) (c .before .before .before .before .before .before .args .block) (c .before .before .before .before .before .before .args .verdict)) (c .before .before .before .before .if1 .left) (c .before .before .put-write .ensures)
+returns-2 c =
+    let at-put-write = c .before .before in
+    let start = at-put-write .before .before .before .before in
+    framed-full (start .args .out .now) (at-put-write .put-write .last .0)
+    (Write (start .args .node) (start .args .timestamp) (start .args .block) (start .args .verdict)) 25 refl
+    (length-write (start .args .node) (start .args .timestamp) (start .args .block) (start .args .verdict))
+    (c .before .before .before .before .if1 .left) (at-put-write .put-write .ensures)
 
 pub write-spec : {M : Type 1} → statement M
 write-spec = tie.close (tie.spec returns put-write-requires same-length returns-2)

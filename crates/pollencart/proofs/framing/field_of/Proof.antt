@@ -25,18 +25,27 @@ short-field-requires c κs = search needs
 
 returns : tie.Need-returns
 returns c =
-    let x = c .before .before .action .given .0 in
-    field-case (c .before .before .before .before .args .action) (Write (x .0) (x .1 .0) (x .1 .1 .0) (x .1 .1 .1 .0)) (c .before .before .before .before .args .index) (c .write-field .result) (c .before .before .action .given .1) (c .write-field .ensures)
+    let at-action = c .before .before in
+    let start = at-action .before .before in
+    let x = at-action .action .given .0 in
+    field-case (start .args .action) (Write (x .0) (x .1 .0) (x .1 .1 .0) (x .1 .1 .1 .0)) (start .args .index) (c .write-field .result)
+    (at-action .action .given .1) (c .write-field .ensures)
 
 returns-2 : tie.Need-returns-2
 returns-2 c =
-    let x = c .before .before .action2 .given .0 in
-    field-case (c .before .before .before .before .args .action) (Session (x .0) (x .1 .0) (x .1 .1 .0) (x .1 .1 .1 .0) (x .1 .1 .1 .1 .0)) (c .before .before .before .before .args .index) (c .session-field .result) (c .before .before .action2 .given .1) (c .session-field .ensures)
+    let at-action2 = c .before .before in
+    let start = at-action2 .before .before in
+    let x = at-action2 .action2 .given .0 in
+    field-case (start .args .action) (Session (x .0) (x .1 .0) (x .1 .1 .0) (x .1 .1 .1 .0) (x .1 .1 .1 .1 .0)) (start .args .index)
+    (c .session-field .result) (at-action2 .action2 .given .1) (c .session-field .ensures)
 
 returns-3 : tie.Need-returns-3
 returns-3 c =
-    let x = c .before .before .action3 .given .0 in
-    field-case (c .before .before .before .before .args .action) (Purge (x .0)) (c .before .before .before .before .args .index) (c .short-field .result) (c .before .before .action3 .given .1) (c .short-field .ensures)
+    let at-action3 = c .before .before in
+    let start = at-action3 .before .before in
+    let x = at-action3 .action3 .given .0 in
+    field-case (start .args .action) (Purge (x .0)) (start .args .index) (c .short-field .result) (at-action3 .action3 .given .1)
+    (c .short-field .ensures)
 
 pub field-of-spec : {M : Type 1} → statement M
 field-of-spec =

@@ -18,13 +18,23 @@ enum-known-read : tie.Need-enum-known-read
 enum-known-read c = search needs
 
 returns : tie.Need-returns
-returns c = check-case (c .before .before .before .before .args .line .now) (c .before .before .read-line .result) (Begin (c .enum-told .given .0 .0)) (c .before .before .read-line .ensures) (c .enum-told .given .1)
+returns c =
+    let at-read-line = c .before .before in
+    check-case (c .before .before .before .before .args .line .now) (at-read-line .read-line .result) (Begin (c .enum-told .given .0 .0))
+    (at-read-line .read-line .ensures) (c .enum-told .given .1)
 
 returns-2 : tie.Need-returns-2
-returns-2 c = check-case (c .before .before .before .before .args .line .now) (c .before .before .read-line .result) (Act (c .enum-told2 .given .0 .0)) (c .before .before .read-line .ensures) (c .enum-told2 .given .1)
+returns-2 c =
+    let at-read-line = c .before .before in
+    check-case (c .before .before .before .before .args .line .now) (at-read-line .read-line .result) (Act (c .enum-told2 .given .0 .0))
+    (at-read-line .read-line .ensures) (c .enum-told2 .given .1)
 
 returns-3 : tie.Need-returns-3
-returns-3 c = check-case (c .before .before .before .before .before .args .line .now) (c .before .before .before .read-line .result) (Refused (c .before .read .given .0 .0)) (c .before .before .before .read-line .ensures) (c .before .read .given .1)
+returns-3 c =
+    let at-read = c .before in
+    let at-read-line = at-read .before .before in
+    check-case (c .before .before .before .before .before .args .line .now) (at-read-line .read-line .result) (Refused (at-read .read .given .0 .0))
+    (at-read-line .read-line .ensures) (at-read .read .given .1)
 
 pub pollencart-check-spec : {M : Type 1} → statement M
 pollencart-check-spec =

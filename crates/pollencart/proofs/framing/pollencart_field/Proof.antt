@@ -29,15 +29,30 @@ enum-told : tie.Need-enum-told
 enum-told c = search needs
 
 returns : tie.Need-returns
-returns c = c .short-field .ensures ∙ after-two 0 0 (c .before .before .read .given .0 .0 ∷ []) (c .before .before .before .before .before .before .args .index) ∙ value-case (c .before .before .before .before .before .before .args .line .now) (c .before .before .before .before .read-line .result) (Begin (c .before .before .read .given .0 .0)) (2 + c .before .before .before .before .before .before .args .index) (c .before .before .before .before .read-line .ensures) (c .before .before .read .given .1)
+returns c =
+    let at-read = c .before .before in
+    let at-read-line = at-read .before .before in
+    let start = at-read-line .before .before in
+    c .short-field .ensures ∙ after-two 0 0 (at-read .read .given .0 .0 ∷ []) (start .args .index) ∙ value-case (start .args .line .now)
+    (at-read-line .read-line .result) (Begin (at-read .read .given .0 .0)) (2 + start .args .index) (at-read-line .read-line .ensures)
+    (at-read .read .given .1)
 
 returns-2 : tie.Need-returns-2
 returns-2 c =
-    let s = c .before .before .read2 .given .0 .0 in
-    c .field-of .ensures ∙ after-two 0 (kindOf (s .action)) (fieldsOf (s .action)) (c .before .before .before .before .before .before .args .index) ∙ value-case (c .before .before .before .before .before .before .args .line .now) (c .before .before .before .before .read-line .result) (Act s) (2 + c .before .before .before .before .before .before .args .index) (c .before .before .before .before .read-line .ensures) (c .before .before .read2 .given .1)
+    let at-read2 = c .before .before in
+    let at-read-line = at-read2 .before .before in
+    let start = at-read-line .before .before in
+    let s = at-read2 .read2 .given .0 .0 in
+    c .field-of .ensures ∙ after-two 0 (kindOf (s .action)) (fieldsOf (s .action)) (start .args .index) ∙ value-case (start .args .line .now)
+    (at-read-line .read-line .result) (Act s) (2 + start .args .index) (at-read-line .read-line .ensures) (at-read2 .read2 .given .1)
 
 returns-3 : tie.Need-returns-3
-returns-3 c = past (c .enum-told .given .0 .0 ∷ []) (2 + c .before .before .before .before .args .index) (omega arith) ∙ value-case (c .before .before .before .before .args .line .now) (c .before .before .read-line .result) (Refused (c .enum-told .given .0 .0)) (2 + c .before .before .before .before .args .index) (c .before .before .read-line .ensures) (c .enum-told .given .1)
+returns-3 c =
+    let at-read-line = c .before .before in
+    let start = at-read-line .before .before in
+    past (c .enum-told .given .0 .0 ∷ []) (2 + start .args .index) (omega arith) ∙ value-case (start .args .line .now)
+    (at-read-line .read-line .result) (Refused (c .enum-told .given .0 .0)) (2 + start .args .index) (at-read-line .read-line .ensures)
+    (c .enum-told .given .1)
 
 pub pollencart-field-spec : {M : Type 1} → statement M
 pollencart-field-spec =

@@ -12,16 +12,22 @@ write-step-requires c κs = search needs
 
 report-requires : tie.Need-report-requires
 report-requires c κs =
-    let x = Session (c .before .before .before .before .before .before .args .a) (c .before .before .before .before .before .before .args .b) (c .before .before .before .before .before .before .args .ca) (c .before .before .before .before .before .before .args .cb) (c .before .before .before .before .before .before .args .outcome) in
-    short (c .before .before .before .write-step .result) (frameReply (c .before .before .before .before .before .before .args .out .now) x) (c .before .before .before .write-step .ensures .0) (value-length (c .before .before .before .before .before .before .args .out .now) x)
+    let at-write-step = c .before .before .before in
+    let start = at-write-step .before .before .before in
+    let x = Session (start .args .a) (start .args .b) (start .args .ca) (start .args .cb) (start .args .outcome) in
+    short (at-write-step .write-step .result) (frameReply (start .args .out .now) x) (at-write-step .write-step .ensures .0)
+    (value-length (start .args .out .now) x)
 
 same-length : tie.Need-same-length
 same-length c = search needs
 
 returns : tie.Need-returns
 returns c =
-    let x = Session (c .before .before .before .before .before .before .before .args .a) (c .before .before .before .before .before .before .before .args .b) (c .before .before .before .before .before .before .before .args .ca) (c .before .before .before .before .before .before .before .args .cb) (c .before .before .before .before .before .before .before .args .outcome) in
-    reported (c .before .before .before .before .write-step .result) (frameReply (c .before .before .before .before .before .before .before .args .out .now) x) (c .before .before .before .before .write-step .last .0) (frameAfter (c .before .before .before .before .before .before .before .args .out .now) x) (c .report .result) (c .report .last .1 .0) (c .before .before .before .before .write-step .ensures) (c .report .ensures)
+    let at-write-step = c .before .before .before .before in
+    let start = at-write-step .before .before .before in
+    let x = Session (start .args .a) (start .args .b) (start .args .ca) (start .args .cb) (start .args .outcome) in
+    reported (at-write-step .write-step .result) (frameReply (start .args .out .now) x) (at-write-step .write-step .last .0)
+    (frameAfter (start .args .out .now) x) (c .report .result) (c .report .last .1 .0) (at-write-step .write-step .ensures) (c .report .ensures)
 
 pub pollencart-frame-session-spec : {M : Type 1} → statement M
 pollencart-frame-session-spec =

@@ -10,13 +10,22 @@ write-start-requires : tie.Need-write-start-requires
 write-start-requires c κs = search needs
 
 report-requires : tie.Need-report-requires
-report-requires c κs = short (c .before .before .before .write-start .result) (startReply (c .before .before .before .before .before .before .args .out .now) (c .before .before .before .before .before .before .args .n)) (c .before .before .before .write-start .ensures .0) (value-start (c .before .before .before .before .before .before .args .out .now) (c .before .before .before .before .before .before .args .n))
+report-requires c κs =
+    let at-write-start = c .before .before .before in
+    let start = at-write-start .before .before .before in
+    short (at-write-start .write-start .result) (startReply (start .args .out .now) (start .args .n)) (at-write-start .write-start .ensures .0)
+    (value-start (start .args .out .now) (start .args .n))
 
 same-length : tie.Need-same-length
 same-length c = search needs
 
 returns : tie.Need-returns
-returns c = reported (c .before .before .before .before .write-start .result) (startReply (c .before .before .before .before .before .before .before .args .out .now) (c .before .before .before .before .before .before .before .args .n)) (c .before .before .before .before .write-start .last .0) (startAfter (c .before .before .before .before .before .before .before .args .out .now) (c .before .before .before .before .before .before .before .args .n)) (c .report .result) (c .report .last .1 .0) (c .before .before .before .before .write-start .ensures) (c .report .ensures)
+returns c =
+    let at-write-start = c .before .before .before .before in
+    let start = at-write-start .before .before .before in
+    reported (at-write-start .write-start .result) (startReply (start .args .out .now) (start .args .n)) (at-write-start .write-start .last .0)
+    (startAfter (start .args .out .now) (start .args .n)) (c .report .result) (c .report .last .1 .0) (at-write-start .write-start .ensures)
+    (c .report .ensures)
 
 pub pollencart-frame-start-spec : {M : Type 1} → statement M
 pollencart-frame-start-spec =

@@ -22,13 +22,23 @@ enum-told-2 : tie.Need-enum-told-2
 enum-told-2 c = search needs
 
 returns : tie.Need-returns
-returns c = value-case (c .before .before .before .before .args .line .now) (c .before .before .read-line .result) (Begin (c .enum-told .given .0 .0)) 1 (c .before .before .read-line .ensures) (c .enum-told .given .1)
+returns c =
+    let at-read-line = c .before .before in
+    value-case (c .before .before .before .before .args .line .now) (at-read-line .read-line .result) (Begin (c .enum-told .given .0 .0)) 1
+    (at-read-line .read-line .ensures) (c .enum-told .given .1)
 
 returns-2 : tie.Need-returns-2
-returns-2 c = c .kind-of .ensures ∙ value-case (c .before .before .before .before .before .before .args .line .now) (c .before .before .before .before .read-line .result) (Act (c .before .before .read .given .0 .0)) 1 (c .before .before .before .before .read-line .ensures) (c .before .before .read .given .1)
+returns-2 c =
+    let at-read = c .before .before in
+    let at-read-line = at-read .before .before in
+    c .kind-of .ensures ∙ value-case (c .before .before .before .before .before .before .args .line .now) (at-read-line .read-line .result)
+    (Act (at-read .read .given .0 .0)) 1 (at-read-line .read-line .ensures) (at-read .read .given .1)
 
 returns-3 : tie.Need-returns-3
-returns-3 c = value-case (c .before .before .before .before .args .line .now) (c .before .before .read-line .result) (Refused (c .enum-told2 .given .0 .0)) 1 (c .before .before .read-line .ensures) (c .enum-told2 .given .1)
+returns-3 c =
+    let at-read-line = c .before .before in
+    value-case (c .before .before .before .before .args .line .now) (at-read-line .read-line .result) (Refused (c .enum-told2 .given .0 .0)) 1
+    (at-read-line .read-line .ensures) (c .enum-told2 .given .1)
 
 pub pollencart-kind-spec : {M : Type 1} → statement M
 pollencart-kind-spec =

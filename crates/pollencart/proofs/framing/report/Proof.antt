@@ -9,7 +9,10 @@ enum-known-answer : tie.Need-enum-known-answer
 enum-known-answer c = search needs
 
 cast-length : tie.Need-cast-length
-cast-length c = omega (arith, length-case (c .before .before .before .args .answer) (c .before .answer .given .0 .0) (c .before .answer .given .1) (c .before .before .before .pre))
+cast-length c =
+    let at-answer = c .before in
+    let start = at-answer .before .before in
+    omega (arith, length-case (start .args .answer) (at-answer .answer .given .0 .0) (at-answer .answer .given .1) (start .pre))
 
 enum-known-answer-2 : tie.Need-enum-known-answer-2
 enum-known-answer-2 c = search needs

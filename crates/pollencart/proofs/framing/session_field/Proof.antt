@@ -22,7 +22,9 @@ returns-5 : tie.Need-returns-5
 returns-5 c = search needs
 
 returns-6 : tie.Need-returns-6
-returns-6 c = past (c .before .args .a ∷ c .before .args .b ∷ c .before .args .ca ∷ c .before .args .cb ∷ c .before .args .outcome ∷ []) (c .before .args .index) (omega arith)
+returns-6 c =
+    let start = c .before in
+    past (start .args .a ∷ start .args .b ∷ start .args .ca ∷ start .args .cb ∷ start .args .outcome ∷ []) (start .args .index) (omega arith)
 
 pub session-field-spec : {M : Type 1} → statement M
 session-field-spec = tie.close (tie.spec returns returns-2 returns-3 returns-4 returns-5 returns-6)

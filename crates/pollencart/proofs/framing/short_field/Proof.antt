@@ -10,7 +10,9 @@ returns : tie.Need-returns
 returns c = search needs
 
 returns-2 : tie.Need-returns-2
-returns-2 c = past (c .before .args .n ∷ []) (c .before .args .index) (omega arith)
+returns-2 c =
+    let start = c .before in
+    past (start .args .n ∷ []) (start .args .index) (omega arith)
 
 pub short-field-spec : {M : Type 1} → statement M
 short-field-spec = tie.close (tie.spec returns returns-2)

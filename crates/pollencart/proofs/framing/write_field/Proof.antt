@@ -19,7 +19,9 @@ returns-4 : tie.Need-returns-4
 returns-4 c = search needs
 
 returns-5 : tie.Need-returns-5
-returns-5 c = past (c .before .args .node ∷ c .before .args .timestamp ∷ c .before .args .block ∷ c .before .args .verdict ∷ []) (c .before .args .index) (omega arith)
+returns-5 c =
+    let start = c .before in
+    past (start .args .node ∷ start .args .timestamp ∷ start .args .block ∷ start .args .verdict ∷ []) (start .args .index) (omega arith)
 
 pub write-field-spec : {M : Type 1} → statement M
 write-field-spec = tie.close (tie.spec returns returns-2 returns-3 returns-4 returns-5)
