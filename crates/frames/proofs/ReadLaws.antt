@@ -2,7 +2,7 @@
 use mathlib.Core.Path.{_≡_, refl, sym, _∙_, ap}
 use mathlib.Core.Bool.{Bool, true, false, not, _&&_, cond}
 use mathlib.Core.List.{List, [], _∷_, _++_}
-use Prim.Native.Nat.{ℕ, _+_, _-_, _*_, _/_, _%_, _^_, _≤_, _<_}
+use Prim.Native.Nat.{ℕ, zero, suc, _+_, _-_, _*_, _/_, _%_, _^_, _≤_, _<_}
 use native.Mathlib.Omega.{arith}
 use native.Mathlib.Numerals.{add-one}
 use native.Mathlib.Nat.{pow-le-pow-right}
@@ -16,7 +16,7 @@ use Rattle.meaning.specs.Rows.{given}
 use Rattle.meaning.specs.Table.{countRight}
 use Rattle.meaning.specs.Frames.{digitValue, bytesOf, allDigits, total, number, widths, digitsOf, unpacked, actionOf, lineKind, lineFields, lineRefusal, readLine}
 use Rattle.meaning.proofs.FrameLaws.{and-left, and-right, length-bytesOf, byte-at, digits-at, digits-all, stray, bytes-take, bytes-drop, bytes-of, total-append, total-below, number-snoc, number-below, refused-stray, refused-empty, refused-length, refusal-whole, read-refused, read-begin, read-act}
-use Rattle.frames.specs.Fields.{pairAt, oddStray, scanned, fieldAt, Whole, lengthOf, writeAt, sessionAt, purgeAt, startAt, startOf, outcomeAt}
+use Rattle.frames.specs.Fields.{pairAt, oddStray, scanned, fieldAt, Whole, lengthOf, writeAt, sessionAt, purgeAt, startAt, startOf, outcomeAt, faultOf}
 
 abbrev Digit : List ℕ → ℕ → Type 0
 Digit l i = digitValue (getD l i 0) < 16
@@ -30,7 +30,8 @@ pub pair-low : (l : List ℕ) (k : ℕ) → Digit l (2 * k) → 15 < digitValue 
 unfolding pairAt
 pair-low l k p q = cc (lt-ltb (digitValue (getD l (2 * k) 0)) 16 p, le-ltb (digitValue (getD l (2 * k + 1) 0)) 16 q)
 
-pub pair-both : (l : List ℕ) (k : ℕ) → Digit l (2 * k) → Digit l (2 * k + 1) → 16 * digitValue (getD l (2 * k) 0) + digitValue (getD l (2 * k + 1) 0) ≡ pairAt l k
+pub pair-both : (l : List ℕ) (k : ℕ) → Digit l (2 * k) → Digit l (2 * k + 1) →
+    16 * digitValue (getD l (2 * k) 0) + digitValue (getD l (2 * k + 1) 0) ≡ pairAt l k
 unfolding pairAt
 pair-both l k p q = cc (lt-ltb (digitValue (getD l (2 * k) 0)) 16 p, lt-ltb (digitValue (getD l (2 * k + 1) 0)) 16 q)
 
@@ -100,7 +101,8 @@ scanned-odd l p =
     let high = ltb-true 15 (digitValue (getD l (length l - 1) 0)) (and-right (eqb (length l % 2) 1) (ltb 15 (digitValue (getD l (length l - 1) 0))) p) in
     scanned-stray l (length l - 1) (omega arith) high
 
-pub scanned-end : (l : List ℕ) (k sum : ℕ) → k ≡ length l / 2 → ((i : ℕ) → i < 2 * k → Digit l i) → oddStray l ≡ false → sum ≡ total (take k (bytesOf l)) → sum ≡ scanned l
+pub scanned-end : (l : List ℕ) (k sum : ℕ) → k ≡ length l / 2 → ((i : ℕ) → i < 2 * k → Digit l i) → oddStray l ≡ false →
+    sum ≡ total (take k (bytesOf l)) → sum ≡ scanned l
 unfolding scanned oddStray
 scanned-end l k sum h digits p s =
     let whole : take k (bytesOf l) ≡ bytesOf l = take-all k (bytesOf l) (omega (arith, length-bytesOf l)) in
@@ -230,6 +232,28 @@ scanned-low l sum e h = go (allDigits l) refl
     go true p = (p, cc)
     go false p = let high : sum ≡ 256 = cc in absurd (omega arith)
 
+-- the refusal by outcome and sum
+pub fault-outcome : (outcome sum : ℕ) → 3 < outcome → 11 ≡ faultOf outcome sum
+unfolding faultOf
+fault-outcome outcome sum p = cc (lt-ltb 3 outcome p)
+
+pub fault-sum : (outcome sum : ℕ) → outcome ≤ 3 → (sum ≡ 0 → ⊥) → 13 ≡ faultOf outcome sum
+unfolding faultOf
+fault-sum outcome sum p q = cc (le-ltb 3 outcome p, ne-eqb sum 0 q)
+
+pub fault-none : (outcome sum : ℕ) → outcome ≤ 3 → sum ≡ 0 → 0 ≡ faultOf outcome sum
+unfolding faultOf
+fault-none outcome sum p q = cc (le-ltb 3 outcome p, eq-eqb sum 0 q)
+
+pub fault-clear : (outcome sum n : ℕ) → n ≡ faultOf outcome sum → n ≡ 0 → (outcome ≤ 3) × (sum ≡ 0)
+unfolding faultOf
+fault-clear outcome sum n e p = go (ltb 3 outcome) (eqb sum 0) refl refl
+  where
+    go : (a b : Bool) → ltb 3 outcome ≡ a → eqb sum 0 ≡ b → (outcome ≤ 3) × (sum ≡ 0)
+    go true b x y = let high : n ≡ 11 = cc in absurd (omega arith)
+    go false false x y = let high : n ≡ 13 = cc in absurd (omega arith)
+    go false true x y = (ltb-false 3 outcome x, eqb-true sum 0 y)
+
 -- the reader's answers, in the order of the refusals
 module _ (line : ℕ) (l : List ℕ) where
   pub line-stray : (sum : ℕ) → sum ≡ scanned l → 255 < sum → Refused 12 ≡ readLine line l
@@ -238,7 +262,8 @@ module _ (line : ℕ) (l : List ℕ) where
   pub line-empty : (sum : ℕ) → sum ≡ scanned l → sum ≤ 255 → length l < 2 → Refused 11 ≡ readLine line l
   line-empty sum e h p = read-refused line 10 l (refused-empty l (scanned-low l sum e h .0) p)
 
-  pub line-length : (sum kind : ℕ) → sum ≡ scanned l → sum ≤ 255 → 2 ≤ length l → kind ≡ fieldAt l 0 1 → (length l ≡ lengthOf kind → ⊥) → Refused 11 ≡ readLine line l
+  pub line-length : (sum kind : ℕ) → sum ≡ scanned l → sum ≤ 255 → 2 ≤ length l → kind ≡ fieldAt l 0 1 → (length l ≡ lengthOf kind → ⊥) →
+      Refused 11 ≡ readLine line l
   unfolding lengthOf
   line-length sum kind e h p k q =
       let known : kind ≡ lineKind (bytesOf l) = k ∙ kind-field l in
@@ -277,13 +302,24 @@ module _ (line : ℕ) (l : List ℕ) where
         rw (← outcome-test, ← start-test)
         (rw (w .is) at (refusal-whole l (w .digits) (omega (arith, w .is, w .known)) (w .long ∙ ap digitsOf (sym (w .is)))))
 
-    pub line-outcome : 3 < outcomeAt l kind → Refused 11 ≡ readLine line l
-    line-outcome p = read-refused line 10 l (cc (whole-refusal, lt-ltb 3 (outcomeAt l kind) p))
+    pub line-fault : (n : ℕ) → n ≡ faultOf (outcomeAt l kind) (total (bytesOf l)) → (n ≡ 0 → ⊥) → Refused n ≡ readLine line l
+    unfolding faultOf
+    line-fault n e p = go n e p
+      where
+        same : (above wrong : Bool) (rest : ℕ) → (given above 11 (given wrong 13 0) ≡ 0 → ⊥) →
+            given above 11 (given wrong 13 rest) ≡ given above 11 (given wrong 13 0)
+        same true wrong rest q = refl
+        same false true rest q = refl
+        same false false rest q = absurd (q refl)
+
+        go : (m : ℕ) → m ≡ faultOf (outcomeAt l kind) (total (bytesOf l)) → (m ≡ 0 → ⊥) → Refused m ≡ readLine line l
+        go zero f q = absurd (q refl)
+        go (suc k) f q =
+            let late = given (eqb kind 0 && not (countRight (fieldAt l 1 1))) 15 0 in
+            read-refused line k l
+            (whole-refusal ∙ same (ltb 3 (outcomeAt l kind)) (not (eqb (total (bytesOf l)) 0)) late (λ z. q (f ∙ z)) ∙ sym f)
 
     module _ (fair : outcomeAt l kind ≤ 3) where
-      pub line-sum : (total (bytesOf l) ≡ 0 → ⊥) → Refused 13 ≡ readLine line l
-      line-sum p = read-refused line 12 l (cc (whole-refusal, le-ltb 3 (outcomeAt l kind) fair, ne-eqb (total (bytesOf l)) 0 p))
-
       pub line-start : total (bytesOf l) ≡ 0 → kind ≡ 0 → startAt l ≡ readLine line l
       unfolding startOf widths fieldsFrom
       line-start p q = go (countRight (fieldAt l 1 1)) refl

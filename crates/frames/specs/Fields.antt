@@ -1,6 +1,6 @@
 -- What the reader's inner functions answer: the scan of a line's characters, its kind where its length is right, and the fields by their place.
 use mathlib.Core.Path.{_≡_}
-use mathlib.Core.Bool.{Bool, true, false, _&&_, cond}
+use mathlib.Core.Bool.{Bool, true, false, not, _&&_, cond}
 use mathlib.Core.List.{List}
 use Prim.Native.Nat.{ℕ, _+_, _-_, _*_, _%_, _≤_, _<_}
 use lib.ListN.{length, getD, take, drop}
@@ -9,6 +9,7 @@ use Rattle.meaning.specs.declared.Action.{Action}
 use Rattle.meaning.specs.declared.Action.the-variants.{Write, Session, Purge}
 use Rattle.meaning.specs.declared.Line.{Line}
 use Rattle.meaning.specs.declared.Line.the-variants.{Begin, Refused}
+use Rattle.meaning.specs.Rows.{given}
 use Rattle.meaning.specs.Table.{countRight}
 use Rattle.meaning.specs.Frames.{digitValue, bytesOf, allDigits, total, number, digitsOf, lineKind}
 
@@ -65,3 +66,7 @@ startAt l = startOf (fieldAt l 1 1)
 
 unfoldable pub outcomeAt : List ℕ → ℕ → ℕ
 outcomeAt l kind = cond (eqb kind 2) (fieldAt l 11 1) 0
+
+-- the refusal of a line that has its kind's length, by its outcome and its sum: 11, then 13, 0 for none
+unfoldable pub faultOf : ℕ → ℕ → ℕ
+faultOf outcome sum = given (ltb 3 outcome) 11 (given (not (eqb sum 0)) 13 0)

@@ -4,7 +4,7 @@ ghost use Prim.Native.Nat.{_+_, _*_, _^_, _≤_, _<_};
 ghost use lib.ListN.{length};
 ghost use mathlib.Core.Bool.{true};
 ghost use Rattle.meaning.specs.Frames.{digitValue, bytesOf, allDigits, lineFields, actionOf};
-ghost use Rattle.frames.specs.Fields.{pairAt, oddStray, scanned, fieldAt, Within, Whole, lengthOf, writeAt, sessionAt, purgeAt, startAt, outcomeAt};
+ghost use Rattle.frames.specs.Fields.{pairAt, oddStray, scanned, fieldAt, Within, Whole, lengthOf, writeAt, sessionAt, purgeAt, startAt, outcomeAt, faultOf};
 use meaning::Action;
 use meaning::Line;
 
@@ -156,6 +156,19 @@ pub(crate) fn outcome(s: &[u8], kind: u8) -> u8
         2 => byte(s, 11),
         _ => 0,
     }
+}
+
+// The refusal of a line that has its kind's length: 11 for the outcome, then 13 for the sum, 0 for none.
+pub(crate) fn fault(outcome: u8, sum: u32) -> u32
+    ensures { λ r. ⌜ r ≡ faultOf outcome sum ⌝ }
+{
+    if 3 < outcome {
+        return 11;
+    }
+    if sum != 0 {
+        return 13;
+    }
+    0
 }
 
 // The start of a line of 6 digits, 15 where "a start's n is not 2 to 16".

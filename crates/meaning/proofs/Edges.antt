@@ -11,7 +11,7 @@ use lib.Dec.{T, eqb, eqb→eq}
 use Rattle.meaning.specs.declared.Action.{Action}
 use Rattle.meaning.specs.declared.Action.the-variants.{Write, Session, Purge}
 use Rattle.meaning.specs.Rows.{ascii, every, keep, least, raise, covers, newer, above, recordAt, records, words}
-use Rattle.meaning.specs.Table.{part, place, count, held, node, putNode, fresh, freshRefusal, madeFresh, recordSound, logSound, sound}
+use Rattle.meaning.specs.Table.{heldAt, logAt, part, place, count, held, node, putNode, fresh, freshRefusal, madeFresh, recordSound, logSound, sound}
 use Rattle.meaning.specs.Node.{own, wrote, opened, finished, purged}
 use Rattle.meaning.specs.Steps.{outcomeAbove, nodeAbsent, nodeTwice, clockBack, noRoom, refusal, acted, reported, reply, after, replyValues}
 use Rattle.meaning.specs.Frames.{
@@ -112,6 +112,10 @@ one = reached two (Write 0 1 16 0x20 ∷ [])
 abbrev five : List ℕ
 five = reached two (Write 0 5 16 0x20 ∷ Session 0 1 5 5 3 ∷ Write 0 6 17 0x20 ∷ Session 0 1 6 5 3 ∷ [])
 
+-- node 1 holds a record that no summary covers: a sound table that no run reaches
+abbrev odd : List ℕ
+odd = place (logAt 1) (0 ∷ 9 ∷ 16 ∷ 0x20 ∷ []) (place (heldAt 1) (1 ∷ []) two)
+
 -- one record of this verdict, counted: refusal, scrubbed, touched
 verdict : ℕ → List ℕ
 verdict v = countValues (verdictCount (0 ∷ 1 ∷ 16 ∷ v ∷ []))
@@ -145,6 +149,8 @@ rows =
     row "outcome 0 again: the acknowledgement follows the smallest entry" (does (reached five (Session 0 1 9 8 3 ∷ [])) (Session 0 1 9 9 0))
     (0 ∷ 0 ∷ 0 ∷ 18 ∷ 9 ∷ 257 ∷ 8 ∷ 274 ∷ 9 ∷ []) ∷
     row "outcome 3: both take the greater starting values" (does five (Session 0 1 9 8 3)) (0 ∷ 0 ∷ 0 ∷ 1 ∷ 9 ∷ 2 ∷ 8 ∷ 17 ∷ 9 ∷ 18 ∷ 8 ∷ 258 ∷ 6 ∷ 274 ∷ 6 ∷ []) ∷
+    row "b compares with what a began with: its own record does not come back" (does odd (Session 0 1 0 0 3))
+    (0 ∷ 1 ∷ 0 ∷ 513 ∷ 1 ∷ 530 ∷ 9 ∷ 531 ∷ 16 ∷ 532 ∷ 0x20 ∷ []) ∷
     row "smallest acknowledgement 5 removes 5 and keeps 6" (does five (Purge 0))
     (0 ∷ 1 ∷ 0 ∷ 513 ∷ 1 ∷ 530 ∷ 6 ∷ 531 ∷ 17 ∷ 534 ∷ 0 ∷ 535 ∷ 0 ∷ 536 ∷ 0 ∷ []) ∷
     row "purging an empty log" (does two (Purge 0)) (0 ∷ 0 ∷ 0 ∷ []) ∷

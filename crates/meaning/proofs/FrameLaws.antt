@@ -1,5 +1,5 @@
 -- Laws of a line's digits, bytes, sum and numbers, for whoever reads or writes frames.
-use mathlib.Core.Path.{_≡_, refl, sym, _∙_}
+use mathlib.Core.Path.{_≡_, refl, sym, _∙_, ap}
 use mathlib.Core.Bool.{Bool, true, false, not, _&&_, cond}
 use mathlib.Core.List.{List, [], _∷_, _++_}
 use Prim.Native.Nat.{ℕ, zero, suc, _+_, _-_, _*_, _/_, _%_, _^_, _≤_, _<_}
@@ -8,11 +8,15 @@ use native.Mathlib.Numerals.{add-one}
 use native.Mathlib.Nat.{pow-suc, mul-assoc, mul-le-mul-right}
 use lib.ListN.{length, getD, take, drop, length-append}
 use lib.Dec.{leb, ltb, eqb}
-use borrow.Author.Tests.{ltb-true, lt-ltb, le-leb, lt-leb, leb-true, leb-false, eqb-true, eq-eqb, ne-eqb}
+use borrow.Author.Tests.{ltb-true, lt-ltb, le-ltb, le-leb, lt-leb, leb-true, leb-false, eqb-true, eq-eqb, ne-eqb}
 use Rattle.meaning.specs.declared.Line.the-variants.{Begin, Act, Refused}
+use Rattle.meaning.specs.declared.Action.{Action}
+use Rattle.meaning.specs.declared.Action.the-variants.{Write, Session, Purge}
+use Rattle.meaning.specs.declared.Framed.the-variants.{Length, Refused as Unframed}
 use Rattle.meaning.specs.Rows.{given}
-use Rattle.meaning.specs.Table.{countRight}
-use Rattle.meaning.specs.Frames.{digitValue, bytesOf, allDigits, total, number, digitsOf, actionOf, lineKind, lineFields, lineRefusal, readLine}
+use Rattle.meaning.specs.Table.{countRight, place}
+use Rattle.meaning.specs.Steps.{outcomeAbove}
+use Rattle.meaning.specs.Frames.{digitValue, bytesOf, allDigits, total, number, digitsOf, actionOf, lineKind, lineFields, lineRefusal, readLine, spelled, highFirst, packed, sealed, widths, frameOf, frame, startFrame, writerRefusal, starterRefusal, frameReply, frameAfter, startReply, startAfter, lineValues, lineIs, meant, framedValues, framed}
 
 -- both tests of a conjunction pass
 pub and-left : (a b : Bool) → a && b ≡ true → a ≡ true
@@ -206,3 +210,164 @@ pub read-act : (line : ℕ) (l : List ℕ) → lineRefusal l ≡ 0 → (lineKind
     → Act (record { line = line; action = actionOf (lineKind (bytesOf l)) (lineFields (bytesOf l)) }) ≡ readLine line l
 unfolding readLine
 read-act line l p q = cc (ne-eqb (lineKind (bytesOf l)) 0 q)
+
+-- two digits a byte, written
+pub spelled-append : (xs ys : List ℕ) → spelled (xs ++ ys) ≡ spelled xs ++ spelled ys
+unfolding spelled
+spelled-append [] ys = refl
+spelled-append (x ∷ xs) ys = cc (spelled-append xs ys)
+
+pub length-spelled : (bs : List ℕ) → length (spelled bs) ≡ 2 * length bs
+unfolding spelled
+length-spelled [] = refl
+length-spelled (b ∷ bs) = omega (arith, length-spelled bs)
+
+pub length-highFirst : (k v : ℕ) → length (highFirst k v) ≡ k
+unfolding highFirst
+length-highFirst zero v = refl
+length-highFirst (suc k) v = omega (arith, length-append (highFirst k (v / 256)) (v % 256 ∷ []), length-highFirst k (v / 256))
+
+pub bytes-highFirst : (k v : ℕ) → Bytes (highFirst k v)
+unfolding highFirst
+bytes-highFirst zero v = tt
+bytes-highFirst (suc k) v = bytes-append (highFirst k (v / 256)) (v % 256 ∷ []) (bytes-highFirst k (v / 256)) (omega arith, tt)
+
+-- what a writer answers and leaves
+pub framed-right : (out : List ℕ) (x : Action) → writerRefusal out x ≡ 0 →
+    (Length (length (frame x)) ≡ frameReply out x) × (place 0 (frame x) out ≡ frameAfter out x)
+unfolding frameReply frameAfter
+framed-right out x p = (rw p refl, rw p refl)
+
+pub framed-wrong : (out : List ℕ) (x : Action) (k : ℕ) → writerRefusal out x ≡ suc k → (Unframed (suc k) ≡ frameReply out x) × (out ≡ frameAfter out x)
+unfolding frameReply frameAfter
+framed-wrong out x k p = (rw p refl, rw p refl)
+
+pub started-right : (out : List ℕ) (n : ℕ) → starterRefusal out n ≡ 0 →
+    (Length (length (startFrame n)) ≡ startReply out n) × (place 0 (startFrame n) out ≡ startAfter out n)
+unfolding startReply startAfter
+started-right out n p = (rw p refl, rw p refl)
+
+pub started-wrong : (out : List ℕ) (n k : ℕ) → starterRefusal out n ≡ suc k → (Unframed (suc k) ≡ startReply out n) × (out ≡ startAfter out n)
+unfolding startReply startAfter
+started-wrong out n k p = (rw p refl, rw p refl)
+
+-- the length of each frame, LF included
+pub length-write : (p t b v : ℕ) → length (frame (Write p t b v)) ≡ 25
+unfolding frame frameOf sealed widths packed highFirst spelled
+length-write p t b v = refl
+
+pub length-session : (a b ca cb o : ℕ) → length (frame (Session a b ca cb o)) ≡ 27
+unfolding frame frameOf sealed widths packed highFirst spelled
+length-session a b ca cb o = refl
+
+pub length-purge : (p : ℕ) → length (frame (Purge p)) ≡ 7
+unfolding frame frameOf sealed widths packed highFirst spelled
+length-purge p = refl
+
+pub length-start : (n : ℕ) → length (startFrame n) ≡ 7
+unfolding startFrame frameOf sealed widths packed highFirst spelled
+length-start n = refl
+
+-- the writers' refusals: "refuses with 2 as above, then with 17 if the lent bytes are too few"
+pub writer-outcome : (out : List ℕ) (x : Action) → outcomeAbove x ≡ true → writerRefusal out x ≡ 2
+unfolding writerRefusal
+writer-outcome out x p = cc
+
+pub writer-few : (out : List ℕ) (x : Action) → outcomeAbove x ≡ false → length out < length (frame x) → writerRefusal out x ≡ 17
+unfolding writerRefusal
+writer-few out x p h = cc (lt-ltb (length out) (length (frame x)) h)
+
+pub writer-none : (out : List ℕ) (x : Action) → outcomeAbove x ≡ false → length (frame x) ≤ length out → writerRefusal out x ≡ 0
+unfolding writerRefusal
+writer-none out x p h = cc (le-ltb (length out) (length (frame x)) h)
+
+pub starter-count : (out : List ℕ) (n : ℕ) → countRight n ≡ false → starterRefusal out n ≡ 15
+unfolding starterRefusal
+starter-count out n p = rw (starterRefusal, p) refl
+
+pub starter-few : (out : List ℕ) (n : ℕ) → countRight n ≡ true → length out < length (startFrame n) → starterRefusal out n ≡ 17
+unfolding starterRefusal
+starter-few out n p h = rw (starterRefusal, p, lt-ltb (length out) (length (startFrame n)) h) refl
+
+pub starter-none : (out : List ℕ) (n : ℕ) → countRight n ≡ true → length (startFrame n) ≤ length out → starterRefusal out n ≡ 0
+unfolding starterRefusal
+starter-none out n p h = rw (starterRefusal, p, le-ltb (length out) (length (startFrame n)) h) refl
+
+-- a count of 2 to 16
+pub count-right : (n : ℕ) → 2 ≤ n → n ≤ 16 → countRight n ≡ true
+count-right n p q = cc (le-leb 2 n p, le-leb n 16 q)
+
+pub count-wrong : (n : ℕ) → (2 ≤ n → n ≤ 16 → ⊥) → countRight n ≡ false
+count-wrong n p = go (leb 2 n) (leb n 16) refl refl
+  where
+    go : (a b : Bool) → leb 2 n ≡ a → leb n 16 ≡ b → a && b ≡ false
+    go true true x y = absurd (p (leb-true 2 n x) (leb-true n 16 y))
+    go true false x y = refl
+    go false b x y = refl
+
+-- a step's frame in too few bytes, and in enough
+pub framed-outcome : (out : List ℕ) (x : Action) → outcomeAbove x ≡ true → (Unframed 2 ≡ frameReply out x) × (out ≡ frameAfter out x)
+framed-outcome out x p = framed-wrong out x 1 (writer-outcome out x p)
+
+pub framed-few : (out : List ℕ) (x : Action) (n : ℕ) → outcomeAbove x ≡ false → length (frame x) ≡ n → length out < n →
+    (Unframed 17 ≡ frameReply out x) × (out ≡ frameAfter out x)
+framed-few out x n p e h = framed-wrong out x 16 (writer-few out x p (rw e h))
+
+pub framed-full : (out out′ : List ℕ) (x : Action) (n : ℕ) → outcomeAbove x ≡ false → length (frame x) ≡ n → n ≤ length out → out′ ≡ place 0 (frame x) out
+    → (Length n ≡ frameReply out x) × (out′ ≡ frameAfter out x)
+framed-full out out′ x n p e h q =
+    let right = framed-right out x (writer-none out x p (rw e h)) in
+    (ap Length (sym e) ∙ right .0, q ∙ right .1)
+
+-- the same of a start's
+pub started-count : (out : List ℕ) (n : ℕ) → countRight n ≡ false → (Unframed 15 ≡ startReply out n) × (out ≡ startAfter out n)
+started-count out n p = started-wrong out n 14 (starter-count out n p)
+
+pub started-few : (out : List ℕ) (n : ℕ) → countRight n ≡ true → length out < 7 → (Unframed 17 ≡ startReply out n) × (out ≡ startAfter out n)
+started-few out n p h = started-wrong out n 16 (starter-few out n p (rw (length-start n) h))
+
+pub started-full : (out out′ : List ℕ) (n : ℕ) → countRight n ≡ true → 7 ≤ length out → out′ ≡ place 0 (startFrame n) out
+    → (Length 7 ≡ startReply out n) × (out′ ≡ startAfter out n)
+started-full out out′ n p h q =
+    let right = started-right out n (starter-none out n p (rw (length-start n) h)) in
+    (ap Length (sym (length-start n)) ∙ right .0, q ∙ right .1)
+
+-- a session's outcome above 3
+pub above-three : (a b ca cb o : ℕ) → 3 < o → outcomeAbove (Session a b ca cb o) ≡ true
+unfolding outcomeAbove
+above-three a b ca cb o h = lt-ltb 3 o h
+
+pub within-three : (a b ca cb o : ℕ) → o ≤ 3 → outcomeAbove (Session a b ca cb o) ≡ false
+unfolding outcomeAbove
+within-three a b ca cb o h = le-ltb 3 o h
+
+-- the values of an answer: the refusal first, and a frame's length
+pub value-refusal : (line : ℕ) (l : List ℕ) → getD (lineValues (readLine line l)) 0 0 ≡ lineRefusal l
+unfolding readLine
+value-refusal line l = go (lineRefusal l) (eqb (lineKind (bytesOf l)) 0)
+  where
+    go : (k : ℕ) (b : Bool) → getD (lineValues (lineIs k (meant line (bytesOf l) b))) 0 0 ≡ k
+    go zero true = refl
+    go zero false = refl
+    go (suc k) b = refl
+
+pub frame-most : (x : Action) → length (frame x) ≤ 27
+frame-most (Write p t b v) = rw (length-write p t b v) (omega arith)
+frame-most (Session a b ca cb o) = rw (length-session a b ca cb o) (omega arith)
+frame-most (Purge p) = rw (length-purge p) (omega arith)
+
+pub value-length : (out : List ℕ) (x : Action) → getD (framedValues (frameReply out x)) 1 0 ≤ 27
+unfolding frameReply
+value-length out x = go (writerRefusal out x)
+  where
+    go : (k : ℕ) → getD (framedValues (framed k (frame x))) 1 0 ≤ 27
+    go zero = frame-most x
+    go (suc k) = omega arith
+
+pub value-start : (out : List ℕ) (n : ℕ) → getD (framedValues (startReply out n)) 1 0 ≤ 27
+unfolding startReply
+value-start out n = go (starterRefusal out n)
+  where
+    go : (k : ℕ) → getD (framedValues (framed k (startFrame n))) 1 0 ≤ 27
+    go zero = rw (length-start n) (omega arith)
+    go (suc k) = omega arith

@@ -16,3 +16,8 @@ pub mod Demand3
 pub mod AccountCorollaries
 pub mod AccountRises
 pub mod AccountJournals
+pub mod VerdictLaws
+pub mod VerdictTheorems
+pub mod OneReply
+pub mod FrameInverses
+pub mod FrameTheorems

@@ -1,16 +1,17 @@
 -- Laws about soundness: a test at every number, a log's greatest origin and verdict, and where a record of a log stands in the table.
 use mathlib.Core.Path.{_≡_, refl, sym, ap, _∙_}
-use mathlib.Core.Bool.{Bool, true, false, _&&_, and-false}
+use mathlib.Core.Bool.{Bool, true, false, _&&_}
 use mathlib.Core.List.{List}
 use Prim.Native.Nat.{ℕ, zero, suc, _+_, _*_, _<_, _≤_, max}
-use native.Mathlib.Nat.{max-le, suc-max-suc, le-max-left, le-max-right}
+use native.Mathlib.Nat.{max-le, suc-max-suc}
 use native.Mathlib.Numerals.{add-one}
 use native.Mathlib.Omega.{arith}
-use borrow.Author.Tests.{ltb-true, ltb-false, lt-ltb, eq-eqb, ne-eqb, leb-true, leb-false, le-leb, lt-leb}
+use borrow.Author.Tests.{lt-ltb, eq-eqb, ne-eqb, leb-true, leb-false, le-leb, lt-leb}
 use lib.ListN.{length, getD, take, drop}
-use lib.Seq.{getD-take, getD-drop}
+use lib.Seq.{getD-take}
 use lib.Dec.{leb, ltb}
 use Rattle.meaning.specs.Rows.{every, recordAt}
+use Rattle.meaning.proofs.RowLaws.{every-at, recordAt-agree}
 use Rattle.meaning.specs.Table.{tableWords, nodesMost, logMost, logAt, part, count, held, recordSound, logSound, sound}
 
 -- no number, and one number more
@@ -36,13 +37,11 @@ every-same (suc n) f g same = cc (every-same n f g (λ i h. same i (omega arith)
 
 -- a test that fails at one number fails
 pub every-not : (n : ℕ) (f : ℕ → Bool) (i : ℕ) → i < n → f i ≡ false → every n f ≡ false
-unfolding every
-every-not zero f i h e = absurd (omega arith)
-every-not (suc n) f i h e = go (λ before. every-not n f i before e) (ltb i n) refl
+every-not n f i h e = go (every n f) refl
   where
-    go : (i < n → every n f ≡ false) → (b : Bool) → ltb i n ≡ b → (every n f && f n) ≡ false
-    go below true t = cc (below (ltb-true i n t))
-    go below false t = let last : i ≡ n = omega (arith, ltb-false i n t, h) in cc (and-false (every n f))
+    go : (b : Bool) → every n f ≡ b → every n f ≡ false
+    go true t = let at = every-at n f t i h in cc
+    go false t = t
 
 -- the greater of two numbers is at most n if both are
 leb-max : (a b n : ℕ) → leb (max a b) n ≡ (leb a n && leb b n)
@@ -86,12 +85,10 @@ module _ (w : List ℕ) (n : ℕ) where
 
 -- A record of a log's held part is that of the whole log.
 pub recordAt-held : (t : List ℕ) (at k m i : ℕ) → i < k → 4 * k ≤ m → recordAt (take (4 * k) (drop at t)) i ≡ recordAt (part at m t) i
-unfolding recordAt part
+unfolding part
 recordAt-held t at k m i h room =
-    let same : (j : ℕ) → j < 4 * k → getD (take (4 * k) (drop at t)) j 0 ≡ getD (take m (drop at t)) j 0
-    = λ j below. getD-take (4 * k) (drop at t) j 0 below ∙ sym (getD-take m (drop at t) j 0 (omega arith))
-    in
-    cc (same (4 * i) (omega arith), same (4 * i + 1) (omega arith), same (4 * i + 2) (omega arith), same (4 * i + 3) (omega arith))
+    recordAt-agree (take (4 * k) (drop at t)) (take m (drop at t)) i i
+    (λ j b. getD-take (4 * k) (drop at t) (4 * i + j) 0 (omega arith) ∙ sym (getD-take m (drop at t) (4 * i + j) 0 (omega arith)))
 
 -- A log that holds too many is not sound; one that does not is sound if its held part is.
 module _ (t : List ℕ) (p : ℕ) where

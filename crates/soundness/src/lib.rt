@@ -1,7 +1,6 @@
 // Whether a table is sound. Document 01, "The table"; the definition is `sound` of specs/Table.antt.
 // The scan reads each held record once, and without a branch for each: a log's greatest origin and greatest verdict are carried along.
 ghost use mathlib.Core.Path.{_≡_};
-ghost use mathlib.Core.Bool.{_&&_};
 ghost use Prim.Native.Nat.{_<_, _≤_, _*_, max};
 ghost use lib.ListN.{length};
 ghost use Rattle.meaning.specs.Rows.{every, recordAt};

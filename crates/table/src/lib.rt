@@ -1,9 +1,5 @@
 // The lent table: a fresh one, and one step applied. Document 01, "The table" and "The three actions".
-// The entry points, `fresh` and `apply`, take any words at all; what a module below them requires, they have shown.
-pub mod look;
-pub mod purge;
-pub mod session;
-pub mod write;
+// The entry points, `fresh` and `apply`, take any words at all; what the crates below them require, they have shown.
 
 ghost use mathlib.Core.Path.{_≡_};
 ghost use Rattle.meaning.specs.Table.{freshRefusal, madeFresh};
@@ -45,15 +41,15 @@ pub fn apply_sound(t: &mut [u32], action: Action) -> Reply
             timestamp,
             block,
             verdict,
-        } => write::write(t, node, timestamp, block, verdict),
+        } => actions::write::write(t, node, timestamp, block, verdict),
         Action::Session {
             a,
             b,
             ca,
             cb,
             outcome,
-        } => session::session(t, a, b, ca, cb, outcome),
-        Action::Purge { node } => purge::purge(t, node),
+        } => sessions::session(t, a, b, ca, cb, outcome),
+        Action::Purge { node } => actions::purge::purge(t, node),
     }
 }
 

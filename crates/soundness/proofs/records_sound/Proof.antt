@@ -1,11 +1,10 @@
 -- `soundness::records_sound`. The invariant: the greatest origin and verdict of the k records passed are in range just if each of those records is sound.
-use mathlib.Core.Path.{_≡_, refl, sym, ap, _∙_}
-use mathlib.Core.Bool.{_&&_}
+use mathlib.Core.Path.{_≡_, _∙_}
+use mathlib.Core.Bool.{true, false, _&&_}
 use Prim.Native.Nat.{_≤_, _-_}
 use native.Mathlib.Omega.{arith}
 use borrow.Author.Needs.{needs}
 use borrow.Author.Tests.{lt-ltb, le-ltb}
-use mathlib.Core.Bool.{true, false}
 use lib.Dec.{leb, ltb}
 use Rattle.meaning.specs.Rows.{every, recordAt}
 use Rattle.meaning.specs.Table.{recordSound}

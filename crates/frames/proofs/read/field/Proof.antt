@@ -14,10 +14,14 @@ abbrev μ-loop : tie.MeasureT-loop
 μ-loop s at width value₀ k₀ value k = width - k
 
 loop-holds : tie.Need-loop-holds Inv-loop μ-loop
-loop-holds c = (omega arith, field-none (c .before .args .s .now) (c .before .args .at), omega arith)
+loop-holds c =
+    let start = c .before in
+    (omega arith, field-none (start .args .s .now) (start .args .at), omega arith)
 
 mul-value : tie.Need-mul-value Inv-loop μ-loop
-mul-value c = omega (arith, below-four (c .before .loop .value) (c .before .loop .k) (c .before .loop .inv .2) (omega arith))
+mul-value c =
+    let at-loop = c .before in
+    omega (arith, below-four (at-loop .loop .value) (at-loop .loop .k) (at-loop .loop .inv .2) (omega arith))
 
 add-pair : tie.Need-add-pair Inv-loop μ-loop
 add-pair c = omega (arith, c .before .before .before .pre .1 .room)
@@ -27,8 +31,10 @@ pair-requires c κs = omega (arith, c .before .before .before .pre .1 .room)
 
 add-value : tie.Need-add-value Inv-loop μ-loop
 add-value c =
-    let small = pair-below (c .before .before .before .before .args .s .now) (c .before .before .before .before .args .at + c .before .before .loop .k) (c .before .before .before .before .pre .1 .digits) (omega (arith, c .before .before .before .before .pre .1 .room)) in
-    omega (arith, below-four (c .before .before .loop .value) (c .before .before .loop .k) (c .before .before .loop .inv .2) (omega arith))
+    let at-loop = c .before .before in
+    let start = at-loop .before .before in
+    let small = pair-below (start .args .s .now) (start .args .at + at-loop .loop .k) (start .pre .1 .digits) (omega (arith, start .pre .1 .room)) in
+    omega (arith, below-four (at-loop .loop .value) (at-loop .loop .k) (at-loop .loop .inv .2) (omega arith))
 
 add-k : tie.Need-add-k Inv-loop μ-loop
 add-k c = omega arith
@@ -38,12 +44,19 @@ loop-less c = omega arith
 
 loop-again : tie.Need-loop-again Inv-loop μ-loop
 loop-again c =
-    let more = field-more (c .before .before .before .before .args .s .now) (c .before .before .before .before .args .at) (c .before .before .loop .k) (c .before .before .before .before .pre .1 .digits) (omega (arith, c .before .before .before .before .pre .1 .room)) in
-    let below = field-below (c .before .before .before .before .args .s .now) (c .before .before .before .before .args .at) (c .before .before .loop .k + 1) (c .before .before .before .before .pre .1 .digits) (omega (arith, c .before .before .before .before .pre .1 .room)) in
+    let at-loop = c .before .before in
+    let start = at-loop .before .before in
+    let more = field-more (start .args .s .now) (start .args .at) (at-loop .loop .k) (start .pre .1 .digits) (omega (arith, start .pre .1 .room)) in
+    let below = field-below (start .args .s .now) (start .args .at) (at-loop .loop .k + 1) (start .pre .1 .digits)
+    (omega (arith, start .pre .1 .room)) in
     (omega arith, omega arith, omega arith)
 
 returns : tie.Need-returns Inv-loop μ-loop
-returns c = field-end (c .before .before .before .args .s .now) (c .before .before .before .args .at) (c .before .loop .k) (c .before .before .before .args .width) (c .before .loop .value) (omega arith) (c .before .loop .inv .1) (c .before .loop .inv .2)
+returns c =
+    let at-loop = c .before in
+    let start = at-loop .before .before in
+    field-end (start .args .s .now) (start .args .at) (at-loop .loop .k) (start .args .width) (at-loop .loop .value) (omega arith)
+    (at-loop .loop .inv .1) (at-loop .loop .inv .2)
 
 pub field-spec : {M : Type 1} → statement M
 field-spec =

@@ -10,14 +10,19 @@ use Rattle.frames.proofs.read.outcome.Tie as tie
 byte-requires : tie.Need-byte-requires
 unfolding digitsOf widths
 byte-requires c κs =
-    let long : length (c .before .before .args .s .now) ≡ 26 = whole-at (c .before .before .args .s .now) (c .before .before .args .kind) 2 (c .before .before .pre) (c .match .keys1) in
-    record { digits = c .before .before .pre .digits; room = omega arith }
+    let start = c .before .before in
+    let long : length (start .args .s .now) ≡ 26 = whole-at (start .args .s .now) (start .args .kind) 2 (start .pre) (c .match .keys1) in
+    record { digits = start .pre .digits; room = omega arith }
 
 returns : tie.Need-returns
-returns c = c .byte .ensures ∙ outcome-some (c .before .before .before .args .s .now) (c .before .before .before .args .kind) (c .before .match .keys1)
+returns c =
+    let start = c .before .before .before in
+    c .byte .ensures ∙ outcome-some (start .args .s .now) (start .args .kind) (c .before .match .keys1)
 
 returns-2 : tie.Need-returns-2
-returns-2 c = outcome-none (c .before .before .args .s .now) (c .before .before .args .kind) (c .match .rest .1)
+returns-2 c =
+    let start = c .before .before in
+    outcome-none (start .args .s .now) (start .args .kind) (c .match .rest .1)
 
 pub outcome-spec : {M : Type 1} → statement M
 outcome-spec = tie.close (tie.spec byte-requires returns returns-2)

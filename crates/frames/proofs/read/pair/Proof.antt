@@ -27,10 +27,14 @@ digit-value-requires-2 : tie.Need-digit-value-requires-2
 digit-value-requires-2 c κs = search needs
 
 returns : tie.Need-returns
-returns c = pair-high (c .before .before .before .before .before .before .args .s .now) (c .before .before .before .before .before .before .args .k) (omega arith)
+returns c =
+    let start = c .before .before .before .before .before .before in
+    pair-high (start .args .s .now) (start .args .k) (omega arith)
 
 returns-2 : tie.Need-returns-2
-returns-2 c = pair-low (c .before .before .before .before .before .before .before .args .s .now) (c .before .before .before .before .before .before .before .args .k) (omega arith) (omega arith)
+returns-2 c =
+    let start = c .before .before .before .before .before .before .before in
+    pair-low (start .args .s .now) (start .args .k) (omega arith) (omega arith)
 
 cast-result : tie.Need-cast-result
 cast-result c = search needs
@@ -45,7 +49,9 @@ add-result : tie.Need-add-result
 add-result c = search needs
 
 returns-3 : tie.Need-returns-3
-returns-3 c = omega (arith, pair-both (c .before .before .before .before .before .before .before .args .s .now) (c .before .before .before .before .before .before .before .args .k) (omega arith) (omega arith))
+returns-3 c =
+    let start = c .before .before .before .before .before .before .before in
+    omega (arith, pair-both (start .args .s .now) (start .args .k) (omega arith) (omega arith))
 
 pub pair-spec : {M : Type 1} → statement M
 pair-spec =

@@ -40,7 +40,9 @@ loop-less c = omega arith
 
 loop-again : tie.Need-loop-again Inv-loop μ-loop
 loop-again c =
-    let more = scan-more (c .before .before .before .before .before .before .args .s .now) (c .before .before .before .before .loop .k) (c .before .before .before .before .loop .sum) (omega arith) (omega arith) (c .before .before .before .before .loop .inv .1) (c .before .before .before .before .loop .inv .2) in
+    let at-loop = c .before .before .before .before in
+    let more = scan-more (c .before .before .before .before .before .before .args .s .now) (at-loop .loop .k) (at-loop .loop .sum) (omega arith)
+    (omega arith) (at-loop .loop .inv .1) (at-loop .loop .inv .2) in
     (omega arith, more .0, omega (arith, more .1))
 
 odd-stray-requires : tie.Need-odd-stray-requires Inv-loop μ-loop
@@ -53,7 +55,10 @@ cast-result : tie.Need-cast-result Inv-loop μ-loop
 cast-result c = omega (arith, total-below (take (c .before .before .before .loop .k) (bytesOf (c .before .before .before .before .before .args .s .now))))
 
 returns-3 : tie.Need-returns-3 Inv-loop μ-loop
-returns-3 c = scanned-end (c .before .before .before .before .before .args .s .now) (c .before .before .before .loop .k) (c .before .before .before .loop .sum) (omega arith) (c .before .before .before .loop .inv .1) (sym (c .before .odd-stray .ensures) ∙ c .if2 .left) (c .before .before .before .loop .inv .2)
+returns-3 c =
+    let at-loop = c .before .before .before in
+    scanned-end (c .before .before .before .before .before .args .s .now) (at-loop .loop .k) (at-loop .loop .sum) (omega arith)
+    (at-loop .loop .inv .1) (sym (c .before .odd-stray .ensures) ∙ c .if2 .left) (at-loop .loop .inv .2)
 
 pub scan-spec : {M : Type 1} → statement M
 scan-spec =

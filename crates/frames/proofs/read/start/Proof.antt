@@ -9,13 +9,19 @@ byte-requires : tie.Need-byte-requires
 byte-requires c κs = search needs
 
 returns : tie.Need-returns
-returns c = start-begin (c .before .before .before .before .args .s .now) (c .before .before .byte .result) (c .before .before .byte .ensures) (omega arith) (omega arith)
+returns c =
+    let at-byte = c .before .before in
+    start-begin (c .before .before .before .before .args .s .now) (at-byte .byte .result) (at-byte .byte .ensures) (omega arith) (omega arith)
 
 returns-2 : tie.Need-returns-2
-returns-2 c = start-refused (c .before .before .before .args .s .now) (c .before .byte .result) (c .before .byte .ensures) (omega arith)
+returns-2 c =
+    let at-byte = c .before in
+    start-refused (c .before .before .before .args .s .now) (at-byte .byte .result) (at-byte .byte .ensures) (omega arith)
 
 returns-3 : tie.Need-returns-3
-returns-3 c = start-refused (c .before .before .before .before .args .s .now) (c .before .before .byte .result) (c .before .before .byte .ensures) (omega arith)
+returns-3 c =
+    let at-byte = c .before .before in
+    start-refused (c .before .before .before .before .args .s .now) (at-byte .byte .result) (at-byte .byte .ensures) (omega arith)
 
 pub start-spec : {M : Type 1} → statement M
 start-spec = tie.close (tie.spec byte-requires returns returns-2 returns-3)

@@ -1,0 +1,2 @@
+pub mod CountReplies
+pub mod ValueLaws

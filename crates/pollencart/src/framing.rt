@@ -1,0 +1,207 @@
+// Frames for C: check a line, its kind and fields, and write each kind of frame. Thin over the crate `frames`.
+ghost use mathlib.Core.Path.{_≡_};
+ghost use Prim.Native.Nat.{_+_, _≤_};
+ghost use lib.ListN.{getD};
+ghost use Rattle.meaning.specs.declared.Action.the-variants.{Write, Session, Purge};
+ghost use Rattle.meaning.specs.Frames.{kindOf, fieldsOf, readLine, lineRefusal, lineValues, framedValues, frameReply, frameAfter, startReply, startAfter};
+use meaning::Action;
+use meaning::Framed;
+use meaning::Line;
+use meaning::Step;
+
+// 0 for a line that reads as a start or a step, else the number of its refusal.
+#[no_mangle]
+pub extern "C" fn pollencart_check(line: &[u8]) -> u32
+    ensures { λ r. ⌜ r ≡ lineRefusal (now (line .entry)) ⌝ }
+{
+    let read = frames::read_line(line, 0);
+    match read {
+        Line::Begin { .. } => 0,
+        Line::Act { .. } => 0,
+        Line::Refused { number } => number,
+    }
+}
+
+// An action's kind byte.
+fn kind_of(action: Action) -> u32
+    ensures { λ r. ⌜ r ≡ kindOf action ⌝ }
+{
+    match action {
+        Action::Write { .. } => 1,
+        Action::Session { .. } => 2,
+        Action::Purge { .. } => 3,
+    }
+}
+
+// The kind of a line, 0 for one that is refused. A start's is 0 too: the check tells them apart.
+#[no_mangle]
+pub extern "C" fn pollencart_kind(line: &[u8]) -> u32
+    ensures { λ r. ⌜ r ≡ getD (lineValues (readLine 0 (now (line .entry)))) 1 0 ⌝ }
+{
+    let read = frames::read_line(line, 0);
+    match read {
+        Line::Begin { .. } => 0,
+        Line::Act { step } => {
+            let action = step.action;
+            kind_of(action)
+        }
+        Line::Refused { .. } => 0,
+    }
+}
+
+// A field of a write by its place among the fields, 0 beyond them.
+fn write_field(node: u8, timestamp: u32, block: u32, verdict: u8, index: u32) -> u32
+    ensures { λ r. ⌜ r ≡ getD (fieldsOf (Write node timestamp block verdict)) index 0 ⌝ }
+{
+    match index {
+        0 => node as u32,
+        1 => timestamp,
+        2 => block,
+        3 => verdict as u32,
+        _ => 0,
+    }
+}
+
+// A field of a session by its place among the fields, 0 beyond them.
+fn session_field(a: u8, b: u8, ca: u32, cb: u32, outcome: u8, index: u32) -> u32
+    ensures { λ r. ⌜ r ≡ getD (fieldsOf (Session a b ca cb outcome)) index 0 ⌝ }
+{
+    match index {
+        0 => a as u32,
+        1 => b as u32,
+        2 => ca,
+        3 => cb,
+        4 => outcome as u32,
+        _ => 0,
+    }
+}
+
+// The one field of a start or a purge, 0 beyond it.
+fn short_field(n: u8, index: u32) -> u32
+    ensures { λ r. ⌜ r ≡ getD (fieldsOf (Purge n)) index 0 ⌝ }
+{
+    match index {
+        0 => n as u32,
+        _ => 0,
+    }
+}
+
+// A field of an action by its place among the fields.
+fn field_of(action: Action, index: u32) -> u32
+    ensures { λ r. ⌜ r ≡ getD (fieldsOf action) index 0 ⌝ }
+{
+    match action {
+        Action::Write {
+            node,
+            timestamp,
+            block,
+            verdict,
+        } => write_field(node, timestamp, block, verdict, index),
+        Action::Session {
+            a,
+            b,
+            ca,
+            cb,
+            outcome,
+        } => session_field(a, b, ca, cb, outcome, index),
+        Action::Purge { node } => short_field(node, index),
+    }
+}
+
+// The field of a line at this place among its kind's fields, from 0; 0 for a refused line and for a field that the kind has not.
+#[no_mangle]
+pub extern "C" fn pollencart_field(line: &[u8], index: u32) -> u32
+    ensures { λ r. ⌜ r ≡ getD (lineValues (readLine 0 (now (line .entry)))) (2 + index) 0 ⌝ }
+{
+    let read = frames::read_line(line, 0);
+    match read {
+        Line::Begin { n } => short_field(n, index),
+        Line::Act { step } => {
+            let action = step.action;
+            field_of(action, index)
+        }
+        Line::Refused { .. } => 0,
+    }
+}
+
+// The writer's answer for C: the refusal number, 0 for none, and the length through the reference, 0 if refused.
+fn report(answer: Framed, length: &mut u32) -> u32
+    requires { ⌜ getD (framedValues answer) 1 0 ≤ 27 ⌝ }
+    ensures { λ r. ⌜ (r ≡ getD (framedValues answer) 0 0) × (now (length .exit) ≡ getD (framedValues answer) 1 0) ⌝ }
+{
+    match answer {
+        Framed::Length { bytes } => {
+            *length = bytes as u32;
+            0
+        }
+        Framed::Refused { number } => {
+            *length = 0;
+            number
+        }
+    }
+}
+
+// Writes a start's frame, LF included, from place 0.
+#[no_mangle]
+pub extern "C" fn pollencart_frame_start(out: &mut [u8], n: u8, length: &mut u32) -> u32
+    ensures { λ r. ⌜ (r ≡ getD (framedValues (startReply (now (out .entry)) n)) 0 0) × (now (length .exit) ≡ getD (framedValues (startReply (now (out .entry)) n)) 1 0) × (now (out .exit) ≡ startAfter (now (out .entry)) n) ⌝ }
+{
+    let answer = frames::write_start(out, n);
+    report(answer, length)
+}
+
+// Writes a write's frame, LF included, from place 0.
+#[no_mangle]
+pub extern "C" fn pollencart_frame_write(
+    out: &mut [u8],
+    node: u8,
+    timestamp: u32,
+    block: u32,
+    verdict: u8,
+    length: &mut u32,
+) -> u32
+    ensures { λ r. ⌜ (r ≡ getD (framedValues (frameReply (now (out .entry)) (Write node timestamp block verdict))) 0 0) × (now (length .exit) ≡ getD (framedValues (frameReply (now (out .entry)) (Write node timestamp block verdict))) 1 0) × (now (out .exit) ≡ frameAfter (now (out .entry)) (Write node timestamp block verdict)) ⌝ }
+{
+    let action = Action::Write {
+        node,
+        timestamp,
+        block,
+        verdict,
+    };
+    let answer = frames::write_step(out, Step { line: 0, action });
+    report(answer, length)
+}
+
+// Writes a session's frame, LF included, from place 0.
+#[no_mangle]
+pub extern "C" fn pollencart_frame_session(
+    out: &mut [u8],
+    a: u8,
+    b: u8,
+    ca: u32,
+    cb: u32,
+    outcome: u8,
+    length: &mut u32,
+) -> u32
+    ensures { λ r. ⌜ (r ≡ getD (framedValues (frameReply (now (out .entry)) (Session a b ca cb outcome))) 0 0) × (now (length .exit) ≡ getD (framedValues (frameReply (now (out .entry)) (Session a b ca cb outcome))) 1 0) × (now (out .exit) ≡ frameAfter (now (out .entry)) (Session a b ca cb outcome)) ⌝ }
+{
+    let action = Action::Session {
+        a,
+        b,
+        ca,
+        cb,
+        outcome,
+    };
+    let answer = frames::write_step(out, Step { line: 0, action });
+    report(answer, length)
+}
+
+// Writes a purge's frame, LF included, from place 0.
+#[no_mangle]
+pub extern "C" fn pollencart_frame_purge(out: &mut [u8], node: u8, length: &mut u32) -> u32
+    ensures { λ r. ⌜ (r ≡ getD (framedValues (frameReply (now (out .entry)) (Purge node))) 0 0) × (now (length .exit) ≡ getD (framedValues (frameReply (now (out .entry)) (Purge node))) 1 0) × (now (out .exit) ≡ frameAfter (now (out .entry)) (Purge node)) ⌝ }
+{
+    let action = Action::Purge { node };
+    let answer = frames::write_step(out, Step { line: 0, action });
+    report(answer, length)
+}

@@ -1,0 +1,3 @@
+// The C library: what other programs call, on numbers and slices. include/pollencart.h declares it; each module holds one part.
+pub mod counts;
+pub mod framing;
