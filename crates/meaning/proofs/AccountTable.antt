@@ -4,7 +4,6 @@ use mathlib.Core.Bool.{false}
 use mathlib.Core.List.{List, [], _∷_, Sublistᴰ·slnil, Pairwise·nil}
 use Prim.Native.Nat.{ℕ, zero, suc, _+_, _*_, _≤_, _<_}
 use native.Mathlib.Omega.{arith}
-use lib.ListN.{getD, getD-replicate}
 use Rattle.meaning.specs.declared.Record.{Record}
 use Rattle.meaning.specs.declared.Action.{Action}
 use Rattle.meaning.specs.declared.Action.the-variants.{Write, Session, Purge}
@@ -32,6 +31,7 @@ use Rattle.meaning.proofs.StepLaws.{
   session-facts,
   acted-count,
   fresh-count,
+  fresh-word,
   fresh-log,
   fresh-sound,
 }
@@ -45,21 +45,17 @@ pub record Sure (n : ℕ) (x : Run) : Type 0 where
 
 -- A fresh table ------------------------------------------------------------------------------------------------------------------------------
 
-fresh-word : (n i : ℕ) → i < 4624 → getD (fresh n) (suc i) 0 ≡ 0
-unfolding fresh
-fresh-word n i h = getD-replicate 4624 i 0 0 h
-
 fresh-summary : (n p o : ℕ) → p < nodesMost → o < n → n ≤ nodesMost → entry (node (fresh n) p .summary) o ≡ 0
 unfolding node count
 fresh-summary n p o h j k =
-    getD-part (summaryAt p) (count (fresh n)) (fresh n) o (suc (16 * p + o)) (omega arith) (omega (arith, fresh-count n)) ∙
-    fresh-word n (16 * p + o) (omega arith)
+    getD-part (summaryAt p) (count (fresh n)) (fresh n) o (summaryAt p + o) (omega arith) (omega (arith, fresh-count n)) ∙
+    fresh-word n (summaryAt p + o) (omega arith) (omega arith)
 
 fresh-acks : (n p o : ℕ) → p < nodesMost → o < n → n ≤ nodesMost → entry (node (fresh n) p .acks) o ≡ 0
 unfolding node count
 fresh-acks n p o h j k =
-    getD-part (acksAt p) (count (fresh n)) (fresh n) o (suc (256 + 16 * p + o)) (omega arith) (omega (arith, fresh-count n)) ∙
-    fresh-word n (256 + 16 * p + o) (omega arith)
+    getD-part (acksAt p) (count (fresh n)) (fresh n) o (acksAt p + o) (omega arith) (omega (arith, fresh-count n)) ∙
+    fresh-word n (acksAt p + o) (omega arith) (omega arith)
 
 pub sure-fresh : (n : ℕ) → 2 ≤ n → n ≤ nodesMost → Sure n (record { table = fresh n; account = nothing })
 unfolding has

@@ -11,7 +11,7 @@ use lib.Dec.{T, eqb, eqb→eq}
 use Rattle.meaning.specs.declared.Action.{Action}
 use Rattle.meaning.specs.declared.Action.the-variants.{Write, Session, Purge}
 use Rattle.meaning.specs.Rows.{ascii, every, keep, least, raise, covers, newer, above, recordAt, records, words}
-use Rattle.meaning.specs.Table.{heldAt, logAt, part, place, count, held, node, putNode, fresh, freshRefusal, madeFresh, recordSound, logSound, sound}
+use Rattle.meaning.specs.Table.{summaryAt, acksAt, heldAt, logAt, part, place, count, held, node, putNode, fresh, freshRefusal, madeFresh, recordSound, logSound, sound}
 use Rattle.meaning.specs.Node.{own, wrote, opened, finished, purged}
 use Rattle.meaning.specs.Steps.{outcomeAbove, nodeAbsent, nodeTwice, clockBack, noRoom, refusal, acted, reported, reply, after, replyValues}
 use Rattle.meaning.specs.Frames.{
@@ -116,6 +116,14 @@ five = reached two (Write 0 5 16 0x20 ∷ Session 0 1 5 5 3 ∷ Write 0 6 17 0x2
 abbrev odd : List ℕ
 odd = place (logAt 1) (0 ∷ 9 ∷ 16 ∷ 0x20 ∷ []) (place (heldAt 1) (1 ∷ []) two)
 
+-- words beyond the held number, beyond n entries and beyond n nodes, which no step names
+abbrev marked : List ℕ → List ℕ
+marked t = place (logAt 0 + 4 * 2) (7 ∷ 7 ∷ 7 ∷ 7 ∷ []) (place (summaryAt 0 + 2) (7 ∷ []) (place (acksAt 1 + 2) (7 ∷ []) (place (heldAt 2) (7 ∷ []) (place (logAt 2) (7 ∷ []) t))))
+
+-- document 01's journal up to its first purge
+abbrev early : List ℕ
+early = reached two (Write 0 5 16 16 ∷ Session 0 1 6 4 3 ∷ Session 0 1 7 7 1 ∷ [])
+
 -- one record of this verdict, counted: refusal, scrubbed, touched
 verdict : ℕ → List ℕ
 verdict v = countValues (verdictCount (0 ∷ 1 ∷ 16 ∷ v ∷ []))
@@ -153,6 +161,12 @@ rows =
     (0 ∷ 1 ∷ 0 ∷ 513 ∷ 1 ∷ 530 ∷ 9 ∷ 531 ∷ 16 ∷ 532 ∷ 0x20 ∷ []) ∷
     row "smallest acknowledgement 5 removes 5 and keeps 6" (does five (Purge 0))
     (0 ∷ 1 ∷ 0 ∷ 513 ∷ 1 ∷ 530 ∷ 6 ∷ 531 ∷ 17 ∷ 534 ∷ 0 ∷ 535 ∷ 0 ∷ 536 ∷ 0 ∷ []) ∷
+    row "the rows beyond the old held number are untouched" (does (marked five) (Purge 0))
+    (0 ∷ 1 ∷ 0 ∷ 513 ∷ 1 ∷ 530 ∷ 6 ∷ 531 ∷ 17 ∷ 534 ∷ 0 ∷ 535 ∷ 0 ∷ 536 ∷ 0 ∷ []) ∷
+    row "rows and entries at or beyond n take no part" (does (marked five) (Session 0 1 9 8 3))
+    (0 ∷ 0 ∷ 0 ∷ 1 ∷ 9 ∷ 2 ∷ 8 ∷ 17 ∷ 9 ∷ 18 ∷ 8 ∷ 258 ∷ 6 ∷ 274 ∷ 6 ∷ []) ∷
+    row "the first purge of document 01's journal removes nothing" (does early (Purge 0)) (0 ∷ 0 ∷ 0 ∷ []) ∷
+    row "a table that is not sound, whatever the step" (replyValues (reply (place 0 (17 ∷ []) two) (Session 9 9 0 0 4))) (refused 1) ∷
     row "purging an empty log" (does two (Purge 0)) (0 ∷ 0 ∷ 0 ∷ []) ∷
     row "0002FE" (line "0002FE") (0 ∷ 0 ∷ 2 ∷ []) ∷
     row "0002FF" (line "0002FF") (13 ∷ []) ∷
@@ -166,6 +180,8 @@ rows =
     row "verdict 10" (verdict 0x10) (0 ∷ 1 ∷ 0 ∷ []) ∷
     row "verdict 1F" (verdict 0x1f) (0 ∷ 1 ∷ 0 ∷ []) ∷
     row "verdict 20" (verdict 0x20) (0 ∷ 1 ∷ 1 ∷ []) ∷
+    row "verdict 30" (verdict 0x30) (0 ∷ 1 ∷ 1 ∷ []) ∷
+    row "verdict 3F" (verdict 0x3f) (0 ∷ 1 ∷ 1 ∷ []) ∷
     row "verdict 4F" (verdict 0x4f) (0 ∷ 1 ∷ 1 ∷ []) ∷
     row "verdict 50" (verdict 0x50) (0 ∷ 0 ∷ 0 ∷ []) ∷
     row "document 01's journal, printed" (printed (replayed example) (replayAfter [] example))

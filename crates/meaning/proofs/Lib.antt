@@ -21,3 +21,4 @@ pub mod VerdictTheorems
 pub mod OneReply
 pub mod FrameInverses
 pub mod FrameTheorems
+pub mod Numbers

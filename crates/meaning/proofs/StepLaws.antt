@@ -15,16 +15,11 @@ use Rattle.meaning.specs.declared.Action.the-variants.{Write, Session, P
 use Rattle.meaning.specs.declared.Reply.{Reply}
 use Rattle.meaning.specs.declared.Reply.the-variants.{Refused}
 use Rattle.meaning.specs.Rows.{given, keep, raise, least, newer, above, covers, records, unless}
-use Rattle.meaning.specs.Table.{Node, tableWords, nodesMost, logMost, heldAt, logAt, part, count, held, node, putNode, fresh, recordSound, sound}
+use Rattle.meaning.specs.Table.{Node, tableWords, nodesMost, logMost, countAt, heldAt, logAt, part, count, held, node, putNode, fresh, recordSound, sound}
 use Rattle.meaning.specs.Node.{own, wrote, opened, finished, ended, purged}
 use Rattle.meaning.specs.Steps.{finishesA, finishesB, outcomeAbove, nodeAbsent, nodeTwice, clockBack, overfull, noRoom, refusal, acted, reported, reply, after}
-use Rattle.meaning.proofs.RowLaws.{all, all-append, all-keep, length-keep, and-both, length-raise, length-records, records-take}
+use Rattle.meaning.proofs.RowLaws.{given-none, all, all-append, all-keep, length-keep, and-both, length-raise, length-records, records-take}
 use Rattle.meaning.proofs.TableLaws.{Sound, Shaped, sound-facts, facts-sound, sound-put, node-shaped, node-same, node-other, put-count, put-held-other, held-log}
-
--- Refusals in order: none is given only where no test passes
-given-none : (b : Bool) (k rest : ℕ) → given b (suc k) rest ≡ 0 → (b ≡ false) × (rest ≡ 0)
-given-none true k rest h = absurd (omega arith)
-given-none false k rest h = (refl, h)
 
 -- What an accepted step is known to meet
 pub record Accepted (t : List ℕ) (x : Action) : Type 0 where
@@ -291,13 +286,17 @@ fresh-count n = refl
 
 pub fresh-long : (n : ℕ) → length (fresh n) ≡ tableWords
 unfolding fresh
-fresh-long n = ap suc (length-replicate 4624 (_-_ 1 1))
+fresh-long n = ap suc (length-replicate (tableWords - 1) (_-_ 1 1))
+
+-- every word of it but the count is zero
+pub fresh-word : (n i : ℕ) → countAt < i → i < tableWords → getD (fresh n) i 0 ≡ 0
+unfolding fresh
+fresh-word n zero h j = absurd (omega arith)
+fresh-word n (suc i) h j = getD-replicate (tableWords - 1) i 0 0 (omega arith)
 
 fresh-held : (n p : ℕ) → p < nodesMost → held (fresh n) p ≡ 0
-unfolding held fresh
-fresh-held n p h =
-    let e : heldAt p ≡ suc (512 + p) = omega arith in
-    rw e (getD-replicate 4624 (512 + p) 0 0 (omega arith))
+unfolding held
+fresh-held n p h = fresh-word n (heldAt p) (omega arith) (omega arith)
 
 pub fresh-log : (n p : ℕ) → p < nodesMost → node (fresh n) p .log ≡ []
 unfolding node records

@@ -16,7 +16,7 @@ use Rattle.meaning.specs.declared.Outcome.the-variants.{Bad, Done}
 use Rattle.meaning.specs.Rows.{ascii}
 use Rattle.meaning.specs.Table.{Node, fresh, node}
 use Rattle.meaning.specs.Steps.{refusal, after}
-use Rattle.meaning.specs.Frames.{readLine}
+use Rattle.meaning.specs.Frames.{kindOf, fieldsOf, readLine}
 
 -- "The next line runs from the position to the next LF": what stands before the first LF, and whether there is one
 abbrev pub unlessLF : Bool → ℕ → List ℕ → List ℕ
@@ -56,6 +56,13 @@ unfoldable pub nextAt : List ℕ → ℕ → ℕ → Next
 nextAt s at line =
     cond (leb (length s) at) End
     (cond (unended s at) (RefusedAt 14) (inTurn (eqb at 0) (placeAfter s at) (readLine line (lineAt s at))))
+
+-- Document 01's values of each answer: the refusal (0 for none), then the kind, the fields and the next place of a start or a step
+abbrev pub nextValues : Next → List ℕ
+nextValues (BeginAt n next) = 0 ∷ 0 ∷ n ∷ next ∷ []
+nextValues (ActAt s next) = 0 ∷ kindOf (s .action) ∷ (fieldsOf (s .action) ++ (next ∷ []))
+nextValues (RefusedAt k) = k ∷ []
+nextValues End = 0 ∷ []
 
 -- "hands back each line ..; with a refusal the part is empty"
 abbrev pub handedBack : Next → List ℕ → List ℕ
@@ -128,6 +135,11 @@ refusedOf t (s ∷ ss) = oneIf (refusal t (s .action)) + refusedOf (after t (s .
 abbrev pub outcomeOf : ℕ → Journal → Outcome
 outcomeOf zero j = Done (j .n) (length (j .rest .steps)) (refusedOf (fresh (j .n)) (j .rest .steps))
 outcomeOf (suc k) j = Bad (j .rest .badLine) (suc k)
+
+-- document 01's values: the refused line and its number, or no refusal and the three counts
+abbrev pub outcomeValues : Outcome → List ℕ
+outcomeValues (Bad line k) = line ∷ k ∷ []
+outcomeValues (Done n steps refused) = 0 ∷ 0 ∷ n ∷ steps ∷ refused ∷ []
 
 unfoldable pub replayed : List ℕ → Outcome
 replayed s = outcomeOf (journal s .rest .badNumber) (journal s)

@@ -1,2 +1,4 @@
 pub mod CountReplies
+pub mod EntryLaws
+pub mod TableReplies
 pub mod ValueLaws

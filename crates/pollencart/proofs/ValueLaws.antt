@@ -1,4 +1,4 @@
--- Laws of the values that C is given of a line and of a writer's answer.
+-- Laws of the values that C is given of a line, of a writer's answer and of a step's reply.
 use mathlib.Core.Path.{_≡_, refl, sym, _∙_, ap}
 use mathlib.Core.List.{List, _∷_}
 use Prim.Native.Nat.{ℕ, suc, _+_, _≤_}
@@ -6,9 +6,11 @@ use native.Mathlib.Omega.{arith}
 use lib.ListN.{length, getD, List·getD-eq-default}
 use Rattle.meaning.specs.declared.Action.{Action}
 use Rattle.meaning.specs.declared.Line.{Line}
+use Rattle.meaning.specs.declared.Reply.{Reply}
 use Rattle.meaning.specs.declared.Framed.{Framed}
 use Rattle.meaning.specs.declared.Framed.the-variants.{Length}
 use Rattle.meaning.specs.Frames.{fieldsOf, readLine, lineRefusal, lineValues, framedValues}
+use Rattle.meaning.specs.Steps.{replyValues}
 use Rattle.meaning.proofs.FrameLaws.{value-refusal}
 
 -- the answer that was read, by the case that it is
@@ -40,3 +42,7 @@ reported a b out after r n p q = (rw (← p .0) (q .0), rw (← p .0) (q .1), p 
 -- the length of an answer that is one
 pub length-case : (a : Framed) (k : ℕ) → a ≡ Length k → getD (framedValues a) 1 0 ≤ 27 → k ≤ 27
 length-case a k e p = rw e at p
+
+-- a value of a reply, handed on
+pub reply-value : (x y : Reply) (i r : ℕ) → x ≡ y → r ≡ getD (replyValues x) i 0 → r ≡ getD (replyValues y) i 0
+reply-value x y i r e p = p ∙ ap (λ (z : Reply). getD (replyValues z) i 0) e

@@ -1,0 +1,22 @@
+-- `pollencart_held` meets its contract: the held number.
+use Rattle.pollencart.proofs.EntryLaws.{absent, there, is-sound, below, no-held, held-is}
+use borrow.Author.Needs.{needs}
+use Rattle.pollencart.proofs.entries.pollencart_held.Statement.{statement}
+use Rattle.pollencart.proofs.entries.pollencart_held.Tie as tie
+
+is-present-requires : tie.Need-is-present-requires
+is-present-requires c κs = search needs
+
+returns : tie.Need-returns
+returns c = no-held _ _ (absent _ _ (c .before .is-present .result) (c .before .is-present .ensures) (c .if1 .taken))
+
+held-of-requires : tie.Need-held-of-requires
+held-of-requires c κs =
+    let h = there _ _ (c .before .is-present .result) (c .before .is-present .ensures) (c .if1 .left) in
+    (is-sound _ _ h .long, below _ _ h)
+
+returns-2 : tie.Need-returns-2
+returns-2 c = held-is _ _ _ (there _ _ (c .before .before .is-present .result) (c .before .before .is-present .ensures) (c .before .if1 .left)) (c .held-of .ensures)
+
+pub pollencart-held-spec : {M : Type 1} → statement M
+pollencart-held-spec = tie.close (tie.spec is-present-requires returns held-of-requires returns-2)

@@ -1,0 +1,20 @@
+-- `pollencart_write` meets its contract: the reply's number, and the words that the step leaves.
+use Rattle.pollencart.proofs.ValueLaws.{reply-value}
+use borrow.Author.Needs.{needs}
+use Rattle.pollencart.proofs.tables.pollencart_write.Statement.{statement}
+use Rattle.pollencart.proofs.tables.pollencart_write.Tie as tie
+
+apply-requires : tie.Need-apply-requires
+apply-requires c κs = search needs
+
+number-of-requires : tie.Need-number-of-requires
+number-of-requires c κs = search needs
+
+same-length : tie.Need-same-length
+same-length c = search needs
+
+returns : tie.Need-returns
+returns c = (reply-value _ _ 0 _ (c .before .before .before .apply .ensures .0) (c .number-of .ensures), c .before .before .before .apply .ensures .1)
+
+pub pollencart-write-spec : {M : Type 1} → statement M
+pollencart-write-spec = tie.close (tie.spec apply-requires number-of-requires same-length returns)
