@@ -1,4 +1,5 @@
 pub mod CountReplies
 pub mod EntryLaws
+pub mod FrameReplies
 pub mod TableReplies
 pub mod ValueLaws
