@@ -1,4 +1,5 @@
 pub mod CountReplies
 pub mod EntryLaws
+pub mod ReplayReplies
 pub mod TableReplies
 pub mod ValueLaws
