@@ -1,6 +1,7 @@
 //! The section "Both sides of each edge" of document 01 and its sample journal, with the numbers
 //! written out: the library and the model must both say them.
 
+use crate::account::Account;
 use crate::library::{Calls, Library, TEXT};
 use crate::model::{count, fresh, read, replay, Action, Table, WORDS};
 
@@ -140,7 +141,25 @@ fn all_counts(library: &mut Library) -> Result<(), String> {
     Ok(())
 }
 
+/// The account of demand 3 must be able to fail: a record that is dropped too early, a summary that
+/// covers what did not arrive, and a log out of order are each told.
+fn account_tells() -> Result<(), String> {
+    let (mut table, mut account) = (fresh(WORDS, 3).unwrap(), Account::fresh(3));
+    for action in [write(0, 1), write(0, 2), session(0, 1, 2, 1, 3), session(0, 1, 3, 2, 3)] {
+        assert_eq!(table.apply(action).refusal, 0);
+        account.accepted(action);
+    }
+    let (mut dropped, mut covered, mut turned) = (table.clone(), table.clone(), table.clone());
+    dropped.held[1] = 1;
+    covered.summaries[2][0] = 1;
+    turned.logs[1].swap(0, 1);
+    let right = (0..3).all(|p| account.fault(&table, p).is_none());
+    let told = [(&dropped, 1), (&covered, 2), (&turned, 1)].into_iter().all(|(table, p)| account.fault(table, p).is_some());
+    if right && told { Ok(()) } else { Err("the account of demand 3 does not tell right from wrong".into()) }
+}
+
 pub fn all(library: &mut Library) -> Result<(), String> {
+    account_tells()?;
     all_counts(library)?;
     all_steps(library)?;
     all_lines(library)?;
