@@ -112,6 +112,9 @@ fn all_verdicts(library: &mut Library) -> Result<(), String> {
 const SAMPLE: &[u8] = b"0002FE\n0100000000050000001010DA\n020001000000060000000403F0\n020001000000070000000701EE\n0300FD\n020001000000080000000803EA\n0300FD\n";
 const PRINTED: &str = "N 2 STEPS 6 REFUSED 0\n0 S 8 8 K 7 6 L 0\n1 S 8 8 K 7 6 L 1\n";
 
+/// Small journals for the program itself.
+pub const JOURNALS: [&[u8]; 5] = [SAMPLE, b"", b"\n", b"0002FE\n", b"0002FE"];
+
 fn all_journals(library: &mut Library) -> Result<(), String> {
     let long = vec![b'0'; 65_537];
     for (journal, printed) in [(SAMPLE, PRINTED), (b"", "BAD 1 15\n"), (b"0002FE\n\n0300FD", "BAD 2 11\n"), (&long, "BAD 0 16\n"), (&long[1..], "BAD 1 14\n")] {

@@ -7,6 +7,8 @@ use crate::random::Random;
 use crate::reached::Reached;
 use crate::shrink::shortest;
 use crate::{lines, steps};
+use std::io::Write;
+use std::process::{Command, Stdio};
 
 /// The journal of a seed.
 pub fn make(seed: u64) -> Vec<u8> {
@@ -132,6 +134,21 @@ fn compare(library: &mut Library, journal: &[u8], words: u32, room: u32, reached
         None => return Ok(()),
     }
     if table == expected { Ok(()) } else { Err("the table that the replay left differs".into()) }
+}
+
+/// Runs the program replay on a journal: what it writes must be the model's text, and its status 0.
+pub fn program(words: &[String], journal: &[u8], reached: &mut Reached) -> Result<(), String> {
+    let said = |fault: std::io::Error| format!("it cannot be run: {fault}");
+    let mut child = Command::new(&words[0]).args(&words[1..]).stdin(Stdio::piped()).stdout(Stdio::piped()).spawn().map_err(said)?;
+    let _ = child.stdin.take().unwrap().write_all(journal); // it need not read what is too long
+    let output = child.wait_with_output().map_err(said)?;
+    let (should, after) = replay(journal);
+    reached.add(if after.is_some() { "program done" } else { "program BAD" });
+    if output.stdout == should.as_bytes() && output.status.success() {
+        return Ok(());
+    }
+    let lines: Vec<Vec<u8>> = journal.split_inclusive(|&c| c == b'\n').map(<[u8]>::to_vec).collect();
+    Err(format!("it wrote\n{}document 01 has\n{should}for the journal\n{}{}", String::from_utf8_lossy(&output.stdout), shown(&lines), output.status))
 }
 
 /// Runs the journal of a seed; a mismatch is told with the shortest failing journal.

@@ -65,7 +65,8 @@ pub fn make(seed: u64) -> Scenario {
     let mut rng = Random::new(seed);
     let style = match rng.below(40) {
         0 => Style::WrongLength,
-        1..=3 => Style::Wild,
+        1..=2 => Style::Wild,
+        3..=5 => Style::Damaged,
         _ => rng.among(&STYLES[..10]),
     };
     let n = 2 + rng.below(15);
@@ -155,6 +156,7 @@ impl Maker {
         let n = t.count.clamp(2, 16);
         match self.rng.below(100) {
             97 => Event::CountNode(self.node(n)),
+            95 | 96 if self.style == Style::Damaged => Event::CountNode(self.node(n)),
             98 => Event::Look { node: self.node(n), origin: self.node(n), index: self.rng.below(70), word: self.rng.below(6) },
             99 if self.rng.percent(10) => Event::Fresh(self.rng.below(20)),
             99 if self.rng.percent(3) => Event::Fresh(self.rng.word()),
@@ -265,7 +267,14 @@ impl Maker {
         let old = words[index as usize];
         self.mended = Some((index, old));
         let (low, high) = (self.rng.below(18), self.rng.word());
-        Event::Poke(index, self.rng.among(&[0, 1, 2, 15, 16, 17, 64, 65, 255, 256, low, low, high, u32::MAX, old.wrapping_add(1), old.wrapping_sub(1)]))
+        let least_wrong = match index {
+            0 => self.rng.among(&[0, 1, 17]),
+            HELD..LOG => 65,
+            LOG.. if (index - LOG) % 4 == 0 => t.count,
+            LOG.. => 256,
+            _ => u32::MAX,
+        };
+        Event::Poke(index, self.rng.among(&[least_wrong, least_wrong, least_wrong, 0, 1, 2, 16, 64, 255, low, high, u32::MAX, old.wrapping_add(1), old.wrapping_sub(1)]))
     }
 }
 
@@ -483,7 +492,9 @@ pub fn compare(library: &mut Library, scenario: &Scenario, reached: &mut Reached
 /// Runs the scenario of a seed; a mismatch is told with the shortest failing list of steps.
 pub fn seed(library: &mut Library, seed: u64, reached: &mut Reached) -> Result<usize, String> {
     let scenario = make(seed);
-    let Err((at, _)) = compare(library, &scenario, reached) else { return Ok(scenario.events.len()) };
+    let Err((at, _)) = compare(library, &scenario, reached) else {
+        return Ok(scenario.events.iter().filter(|event| matches!(event, Event::Step(_))).count());
+    };
     let mut nowhere = Reached::default();
     let mut fails = |events: &[Event]| {
         let tried = Scenario { words: scenario.words.clone(), events: events.to_vec() };
