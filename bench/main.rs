@@ -154,10 +154,10 @@ fn frames(rows: &mut Vec<Row>) {
     let many = 4000;
     let start = |api: Api| move |i: usize| unsafe {
         let (mut out, mut length) = ([0u8; 32], 0);
-        (api.frame_start)(out.as_mut_ptr(), 32, black_box(i as u8 & 15), &mut length);
+        (api.frame_start)(out.as_mut_ptr(), 32, black_box(2 + (i as u8 & 7)), &mut length);
         black_box((out, length));
     };
-    rows.push(row("write a frame: start", many, start, |i| seen(model::start_frame(black_box(i as u8 & 15)))));
+    rows.push(row("write a frame: start", many, start, |i| seen(model::start_frame(black_box(2 + (i as u8 & 7))))));
     let write = |api: Api| move |i: usize| unsafe {
         let (mut out, mut length) = ([0u8; 32], 0);
         (api.frame_write)(out.as_mut_ptr(), 32, 3, black_box(i as u32), black_box(0xDEAD_BEEF), 0x2A, &mut length);

@@ -13,6 +13,9 @@ long read(int, void *, size_t);
 long write(int, const void *, size_t);
 void abort(void);
 
+/* The number stands in src/library.rs and bench/ too. */
+_Static_assert(POLLENCART_TEXT == 8192, "the room for a replay's text");
+
 enum { PAGE = 65536, READ_WRITE = 3, PRIVATE = 2, SHARED = 1, ANONYMOUS = 32, OPEN_READ_WRITE = 2 };
 enum { END, TABLE, FRESH, WRITE, SESSION, PURGE, LINE, FRAME, REPLAY, COUNT, COUNT_NODE, LOOK, POKE };
 
