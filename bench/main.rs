@@ -152,28 +152,36 @@ fn lines(rows: &mut Vec<Row>) {
 
 fn frames(rows: &mut Vec<Row>) {
     let many = 4000;
-    let start = |api: Api| move |i: usize| unsafe {
-        let (mut out, mut length) = ([0u8; 32], 0);
-        (api.frame_start)(out.as_mut_ptr(), 32, black_box(2 + (i as u8 & 7)), &mut length);
-        black_box((out, length));
+    let start = |api: Api| {
+        move |i: usize| unsafe {
+            let (mut out, mut length) = ([0u8; 32], 0);
+            (api.frame_start)(out.as_mut_ptr(), 32, black_box(2 + (i as u8 & 7)), &mut length);
+            black_box((out, length));
+        }
     };
     rows.push(row("write a frame: start", many, start, |i| seen(model::start_frame(black_box(2 + (i as u8 & 7))))));
-    let write = |api: Api| move |i: usize| unsafe {
-        let (mut out, mut length) = ([0u8; 32], 0);
-        (api.frame_write)(out.as_mut_ptr(), 32, 3, black_box(i as u32), black_box(0xDEAD_BEEF), 0x2A, &mut length);
-        black_box((out, length));
+    let write = |api: Api| {
+        move |i: usize| unsafe {
+            let (mut out, mut length) = ([0u8; 32], 0);
+            (api.frame_write)(out.as_mut_ptr(), 32, 3, black_box(i as u32), black_box(0xDEAD_BEEF), 0x2A, &mut length);
+            black_box((out, length));
+        }
     };
     rows.push(row("write a frame: write", many, write, |i| seen(model::frame(black_box(Action::Write { node: 3, timestamp: i as u32, block: 0xDEAD_BEEF, verdict: 0x2A })))));
-    let session = |api: Api| move |i: usize| unsafe {
-        let (mut out, mut length) = ([0u8; 32], 0);
-        (api.frame_session)(out.as_mut_ptr(), 32, 3, 11, black_box(i as u32), black_box(0x0BAD_CAFE), 3, &mut length);
-        black_box((out, length));
+    let session = |api: Api| {
+        move |i: usize| unsafe {
+            let (mut out, mut length) = ([0u8; 32], 0);
+            (api.frame_session)(out.as_mut_ptr(), 32, 3, 11, black_box(i as u32), black_box(0x0BAD_CAFE), 3, &mut length);
+            black_box((out, length));
+        }
     };
     rows.push(row("write a frame: session", many, session, |i| seen(model::frame(black_box(Action::Session { a: 3, b: 11, ca: i as u32, cb: 0x0BAD_CAFE, outcome: 3 })))));
-    let purge = |api: Api| move |i: usize| unsafe {
-        let (mut out, mut length) = ([0u8; 32], 0);
-        (api.frame_purge)(out.as_mut_ptr(), 32, black_box(i as u8), &mut length);
-        black_box((out, length));
+    let purge = |api: Api| {
+        move |i: usize| unsafe {
+            let (mut out, mut length) = ([0u8; 32], 0);
+            (api.frame_purge)(out.as_mut_ptr(), 32, black_box(i as u8), &mut length);
+            black_box((out, length));
+        }
     };
     rows.push(row("write a frame: purge", many, purge, |i| seen(model::frame(black_box(Action::Purge { node: i as u8 })))));
 }
@@ -299,7 +307,16 @@ fn journals(rows: &mut Vec<Row>) {
             _ => Action::Purge { node: (i / 8 % 7) as u8 },
         });
     }
-    let refused: usize = model::replay(&mixed.iter().fold(model::start_frame(7), |text, action| [text, model::frame(*action).unwrap()].concat())).0.lines().next().unwrap().rsplit(' ').next().unwrap().parse().unwrap();
+    let refused: usize = model::replay(&mixed.iter().fold(model::start_frame(7), |text, action| [text, model::frame(*action).unwrap()].concat()))
+        .0
+        .lines()
+        .next()
+        .unwrap()
+        .rsplit(' ')
+        .next()
+        .unwrap()
+        .parse()
+        .unwrap();
     eprintln!("the full journal: {} steps, {refused} refused", mixed.len());
     journal(rows, "the run of a full journal (7 nodes, 2400 steps)", 7, &mixed, 1);
 }

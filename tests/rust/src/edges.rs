@@ -158,7 +158,11 @@ fn account_tells() -> Result<(), String> {
     turned.logs[1].swap(0, 1);
     let right = (0..3).all(|p| account.fault(&table, p).is_none());
     let told = [(&dropped, 1), (&covered, 2), (&turned, 1)].into_iter().all(|(table, p)| account.fault(table, p).is_some());
-    if right && told { Ok(()) } else { Err("the account of demand 3 does not tell right from wrong".into()) }
+    if right && told {
+        Ok(())
+    } else {
+        Err("the account of demand 3 does not tell right from wrong".into())
+    }
 }
 
 pub fn all(library: &mut Library) -> Result<(), String> {

@@ -133,7 +133,11 @@ fn compare(library: &mut Library, journal: &[u8], words: u32, room: u32, reached
         None if nothing => expected = vec![0xA5A5_A5A5; words as usize],
         None => return Ok(()),
     }
-    if table == expected { Ok(()) } else { Err("the table that the replay left differs".into()) }
+    if table == expected {
+        Ok(())
+    } else {
+        Err("the table that the replay left differs".into())
+    }
 }
 
 /// Runs the program replay on a journal: what it writes must be the model's text, and its status 0.

@@ -123,7 +123,11 @@ impl<'a> Answers<'a> {
 pub enum Library {
     #[cfg(linked)]
     Here(Vec<u32>),
-    There { child: Child, shared: *mut u32, command: Vec<String> },
+    There {
+        child: Child,
+        shared: *mut u32,
+        command: Vec<String>,
+    },
 }
 
 impl Library {

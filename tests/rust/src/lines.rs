@@ -103,7 +103,11 @@ fn compare_line(line: &[u8], answers: &mut Answers, reached: &mut Reached) -> Re
         13 => "line 13",
         _ => "line 15",
     });
-    if is == should { Ok(()) } else { Err(format!("check, kind, fields 0 to 5, a field far out, line unchanged: the library says {is:?}, document 01 {should:?}")) }
+    if is == should {
+        Ok(())
+    } else {
+        Err(format!("check, kind, fields 0 to 5, a field far out, line unchanged: the library says {is:?}, document 01 {should:?}"))
+    }
 }
 
 /// Compares a frame's writer: the refusal, the length and every lent byte.
@@ -126,7 +130,11 @@ fn compare_frame(what: Frame, room: usize, answers: &mut Answers, reached: &mut 
     bytes[..line.len()].copy_from_slice(&line);
     let is = (answers.word(), answers.word(), answers.bytes(room));
     let should = (refusal, line.len() as u32, bytes);
-    if is == should { Ok(()) } else { Err(format!("refusal, length and bytes: the library says {is:?}, document 01 {should:?}")) }
+    if is == should {
+        Ok(())
+    } else {
+        Err(format!("refusal, length and bytes: the library says {is:?}, document 01 {should:?}"))
+    }
 }
 
 fn a_frame(rng: &mut Random) -> Frame {
@@ -157,7 +165,11 @@ fn compare_list(list: &[u32], answers: &mut Answers, reached: &mut Reached) -> R
     let is = [answers.word(), answers.word(), answers.word()];
     let should = count(list).map_or_else(|refusal| [refusal, 0, 0], |(scrubbed, touched)| [0, scrubbed, touched]);
     reached.add(if should[0] == 0 { "count 0" } else { "count 1" });
-    if is == should { Ok(()) } else { Err(format!("refusal, scrubbed, touched: the library says {is:?}, document 01 {should:?}")) }
+    if is == should {
+        Ok(())
+    } else {
+        Err(format!("refusal, scrubbed, touched: the library says {is:?}, document 01 {should:?}"))
+    }
 }
 
 /// Runs the lines, frames and lists of a seed; a mismatch is told with the shortest failing line.

@@ -83,14 +83,7 @@ impl Table {
         let summaries = (0..NODES).map(|_| take(NODES).to_vec()).collect();
         let acknowledgements = (0..NODES).map(|_| take(NODES).to_vec()).collect();
         let held = take(NODES).to_vec();
-        let logs = (0..NODES)
-            .map(|_| {
-                take(ROOM * 4)
-                    .chunks(4)
-                    .map(|w| Record { origin: w[0], timestamp: w[1], block: w[2], verdict: w[3] })
-                    .collect()
-            })
-            .collect();
+        let logs = (0..NODES).map(|_| take(ROOM * 4).chunks(4).map(|w| Record { origin: w[0], timestamp: w[1], block: w[2], verdict: w[3] }).collect()).collect();
         Some(Table { count, summaries, acknowledgements, held, logs })
     }
 
@@ -123,11 +116,7 @@ impl Table {
 
     /// "A table is sound if .." (the length is right already).
     pub fn sound(&self) -> bool {
-        (2..=16).contains(&self.count)
-            && (0..self.n()).all(|p| {
-                self.held[p] as usize <= ROOM
-                    && self.log(p).iter().all(|r| r.origin < self.count && r.verdict <= 255)
-            })
+        (2..=16).contains(&self.count) && (0..self.n()).all(|p| self.held[p] as usize <= ROOM && self.log(p).iter().all(|r| r.origin < self.count && r.verdict <= 255))
     }
 
     /// The starting summary and acknowledgement row of a session's side.
@@ -228,7 +217,11 @@ impl Table {
     }
 
     fn node(&self, node: u8) -> Result<usize, u32> {
-        if u32::from(node) < self.count { Ok(usize::from(node)) } else { Err(3) }
+        if u32::from(node) < self.count {
+            Ok(usize::from(node))
+        } else {
+            Err(3)
+        }
     }
 
     fn append(&mut self, p: usize, record: Record) {
@@ -345,7 +338,11 @@ pub fn lines(journal: &[u8]) -> Result<Vec<Frame>, (usize, u32)> {
         frames.push(frame);
         at = end + 1;
     }
-    if frames.is_empty() { Err((1, 15)) } else { Ok(frames) }
+    if frames.is_empty() {
+        Err((1, 15))
+    } else {
+        Ok(frames)
+    }
 }
 
 /// What the replay program prints for a journal, and the table it then has, if no line is refused.

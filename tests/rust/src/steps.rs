@@ -40,19 +40,8 @@ pub enum Style {
     WrongLength,
 }
 
-const STYLES: [Style; 11] = [
-    Style::Gossip,
-    Style::Full,
-    Style::Lagging,
-    Style::Largest,
-    Style::Wild,
-    Style::Edges,
-    Style::Cut,
-    Style::Drain,
-    Style::Damaged,
-    Style::Arbitrary,
-    Style::WrongLength,
-];
+const STYLES: [Style; 11] =
+    [Style::Gossip, Style::Full, Style::Lagging, Style::Largest, Style::Wild, Style::Edges, Style::Cut, Style::Drain, Style::Damaged, Style::Arbitrary, Style::WrongLength];
 
 /// Where the parts stand, for the damage.
 const SUMMARY: u32 = 1;
@@ -441,7 +430,11 @@ fn refused_with_1(event: Event) -> [u32; 3] {
 }
 
 fn same(what: &str, is: &[u32], should: &[u32]) -> Result<(), String> {
-    if is == should { Ok(()) } else { Err(format!("{what}: the library says {is:?}, document 01 {should:?} (4294967295: not reported)")) }
+    if is == should {
+        Ok(())
+    } else {
+        Err(format!("{what}: the library says {is:?}, document 01 {should:?} (4294967295: not reported)"))
+    }
 }
 
 fn words(is: &[u32], should: &[u32]) -> Result<(), String> {
