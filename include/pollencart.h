@@ -19,8 +19,16 @@ extern "C" {
 /* The bytes of the longest frame, its LF included. */
 #define POLLENCART_FRAME 27
 
-/* Refusal numbers of frames; 0 is none. */
+/* The words of a table. */
+#define POLLENCART_TABLE 4625
+
+/* Refusal numbers; 0 is none. */
+#define POLLENCART_UNSOUND 1 /* the table is not sound; a fresh table's count or length, or a count's records, are wrong */
 #define POLLENCART_OUTCOME 2 /* a session's outcome is above 3 */
+#define POLLENCART_NODE 3    /* a node number is n or more */
+#define POLLENCART_TWICE 4   /* a session names one node twice */
+#define POLLENCART_CLOCK 5   /* a timestamp is not above, or a reading is below, the node's own summary entry */
+#define POLLENCART_FULL 6    /* a log would hold more than 64 records */
 #define POLLENCART_SHAPE 11  /* digits none or odd in number, unknown kind, a length that is not the kind's, or an outcome above 3 */
 #define POLLENCART_DIGIT 12  /* a character is not 0 to 9 or A to F */
 #define POLLENCART_SUM 13    /* the bytes do not add up to zero */
@@ -52,6 +60,56 @@ uint32_t pollencart_frame_write(uint8_t *out, size_t out_len, uint8_t node, uint
 uint32_t pollencart_frame_session(uint8_t *out, size_t out_len, uint8_t a, uint8_t b, uint32_t ca, uint32_t cb, uint8_t outcome,
                                   uint32_t *length);
 uint32_t pollencart_frame_purge(uint8_t *out, size_t out_len, uint8_t node, uint32_t *length);
+
+/* A table is POLLENCART_TABLE words, kept by the caller between calls:
+ *   word 0         n, the number of nodes, 2 to 16; nodes are numbered from 0
+ *   from word 1    16 rows of 16, a row a node: its summary. Entry o: the node has every record of o up to this timestamp
+ *   from word 257  16 rows of 16: its acknowledgements. Entry q: what the node knows that q has acknowledged
+ *   from word 513  16 words: the number of records in its log, 0 to 64
+ *   from word 529  16 logs of 64 rows of 4: origin, timestamp, block, verdict
+ * It is sound if it has so many words, n is 2 to 16, and in each log of a node below n at most 64 records are held, each with
+ * an origin below n and a verdict of at most 255. Rows and entries at or beyond n are never read or written by a step.
+ *
+ * fresh: n is set and every other word becomes 0. Answers 1 and changes nothing if n is not 2 to 16 or table_len is not
+ * POLLENCART_TABLE. This call alone takes words that are not a table yet. */
+uint32_t pollencart_fresh(uint32_t *table, size_t table_len, uint32_t n);
+
+/* The three actions change the table as document 01 says and answer 0. A refused call changes no word of the table, stores 0 for
+ * each count and answers the first number that applies: 1 to 6 as above, in their order.
+ *
+ * write:   the node's finding goes after the last record of its log, and its own summary entry becomes the timestamp.
+ *          Refused with 1, 3, 5 (the timestamp is not above the own entry) or 6 (64 are held).
+ * session: a and b exchange at readings ca and cb. outcome: 0 neither side finishes, 1 only a, 2 only b, 3 both. What was
+ *          carried to each is stored through to_a and to_b, 0 for a side that does not finish.
+ *          Refused with 1, 2, 3, 4, 5 (a reading is below its node's own entry) or 6 (a finishing side would hold more than 64).
+ * purge:   the node's records up to the smallest of its acknowledgements leave; how many is stored through removed.
+ *          Refused with 1 or 3. */
+uint32_t pollencart_write(uint32_t *table, size_t table_len, uint8_t node, uint32_t timestamp, uint32_t block, uint8_t verdict);
+uint32_t pollencart_session(uint32_t *table, size_t table_len, uint8_t a, uint8_t b, uint32_t ca, uint32_t cb, uint8_t outcome,
+                            uint32_t *to_a, uint32_t *to_b);
+uint32_t pollencart_purge(uint32_t *table, size_t table_len, uint8_t node, uint32_t *removed);
+
+/* Reading a table. Each call answers 0 where there is none: for a table that is not sound, for a node, origin or `of` of n or
+ * more, for an index at or beyond the held number, for a word above 3. 0 is also a value that may stand there.
+ *
+ * summary:         the node's summary entry for the origin.
+ * acknowledgement: the node's acknowledgement entry of another.
+ * held:            the number of records in the node's log.
+ * record:          one word of the record at this index of the node's log, from 0, oldest first.
+ *                  word: 0 origin, 1 timestamp, 2 block, 3 verdict. */
+uint32_t pollencart_summary(const uint32_t *table, size_t table_len, uint8_t node, uint8_t origin);
+uint32_t pollencart_acknowledgement(const uint32_t *table, size_t table_len, uint8_t node, uint8_t of);
+uint32_t pollencart_held(const uint32_t *table, size_t table_len, uint8_t node);
+uint32_t pollencart_record(const uint32_t *table, size_t table_len, uint8_t node, uint32_t index, uint32_t word);
+
+/* The verdict count: scrubbed is the number of records with a verdict of 10 to 4F, touched of those with 20 to 4F. Both are
+ * stored, 0 if refused.
+ *
+ * count:      over records of four words as in a log. Refused with 1 if words_len is above 256 or not a multiple of 4, or if a
+ *             verdict is above 255. No word but the verdicts matters.
+ * count_node: over a node's log in a table. Refused with 1 if the table is not sound, then with 3 if the node is n or more. */
+uint32_t pollencart_count(const uint32_t *words, size_t words_len, uint32_t *scrubbed, uint32_t *touched);
+uint32_t pollencart_count_node(const uint32_t *table, size_t table_len, uint8_t node, uint32_t *scrubbed, uint32_t *touched);
 
 #ifdef __cplusplus
 }
