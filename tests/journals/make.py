@@ -108,7 +108,8 @@ def samples():
     yield "refused-15-count-1", start(1)
     yield "refused-15-count-17", start(17)
     yield "refused-15-empty", b""
-    yield "refused-16-limit", (start(3) + write(2, 9) * 2621)[:65536 - 6] + b"0300FD"
+    yield "refused-14-at-limit", (start(3) + write(2, 9) * 2621)[:65536 - 6] + b"0300FD"
+    yield "refused-16", start(3) + purge(0) * 9362
     yield "long", longest()
 
 

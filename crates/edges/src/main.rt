@@ -5,7 +5,7 @@ use meaning::Step;
 
 mod say;
 
-// "count 1 or 17: 1", and a wrong length.
+// "count 1 or 17: 1"
 fn making(t: &mut [u32]) {
     say::fresh(t, b"count 1", 1);
     say::fresh(t, b"count 2", 2);
@@ -13,7 +13,7 @@ fn making(t: &mut [u32]) {
     say::fresh(t, b"count 17", 17);
 }
 
-// Node p writes at each timestamp from 1 to the last.
+// A node writes at each timestamp from 1 to the last.
 fn fill(t: &mut [u32], node: u8, last: u32) {
     let mut at: u32 = 0;
     while at < last {
@@ -35,7 +35,7 @@ fn holding(t: &mut [u32], first: u32, second: u32) {
     fill(t, 1, second);
 }
 
-// "64 held: a write gives 6; a session bringing none is accepted." "A full log and a clock gone back: 5."
+// "64 held: a write gives 6". "A full log and a clock gone back: 5."
 fn full(t: &mut [u32]) {
     holding(t, 64, 0);
     say::write(t, b"64 held, a write", 0, 65);
@@ -43,6 +43,7 @@ fn full(t: &mut [u32]) {
     say::session(t, b"64 held, a session, the clock gone back", 63, 0, 3);
 }
 
+// "a session bringing none is accepted", at one full log and at two.
 fn none(t: &mut [u32]) {
     holding(t, 64, 0);
     say::session(t, b"64 held, a session bringing none to a", 64, 1, 1);
@@ -50,7 +51,7 @@ fn none(t: &mut [u32]) {
     say::session(t, b"64 held by both, a session bringing none", 64, 3, 3);
 }
 
-// "63 held and 2 coming: 6", and one coming; "Number 6 asks nothing of a side that doesn't finish."
+// "63 held and 2 coming: 6". "Number 6 asks nothing of a side that doesn't finish."
 fn two_coming(t: &mut [u32]) {
     holding(t, 63, 2);
     say::session(t, b"63 held and 2 coming", 63, 2, 3);
@@ -58,13 +59,14 @@ fn two_coming(t: &mut [u32]) {
     say::session(t, b"63 held and 2 coming, neither finishes", 63, 2, 0);
 }
 
+// One coming fills the log; then none.
 fn one_coming(t: &mut [u32]) {
     holding(t, 63, 1);
     say::session(t, b"63 held and 1 coming", 63, 1, 3);
     say::session(t, b"64 held by both, none coming", 63, 1, 3);
 }
 
-// "A write at 4,294,967,295 is accepted; that node writes no more, but its sessions at that reading go on."
+// "A write at 4,294,967,295 is accepted; that node writes no more"
 fn last(t: &mut [u32]) {
     table::fresh(t, 2);
     say::write(t, b"a write at 4294967295", 0, 4294967295);
@@ -72,6 +74,7 @@ fn last(t: &mut [u32]) {
     say::write(t, b"a write at 1 after it", 0, 1);
 }
 
+// "but its sessions at that reading go on".
 fn goes_on(t: &mut [u32]) {
     say::session(t, b"a session at 4294967295", 4294967295, 0, 3);
     say::session(t, b"another session at 4294967295", 4294967295, 0, 3);
@@ -79,7 +82,7 @@ fn goes_on(t: &mut [u32]) {
     say::write(t, b"a write of the other node", 1, 1);
 }
 
-// "Room freed by a purge is used again".
+// A full log that both nodes have acknowledged.
 fn acknowledged(t: &mut [u32]) {
     holding(t, 64, 0);
     say::purge(t, b"a full log, nothing acknowledged, a purge", 0);
@@ -87,6 +90,7 @@ fn acknowledged(t: &mut [u32]) {
     say::session(t, b"and acknowledged", 64, 64, 3);
 }
 
+// "Room freed by a purge is used again".
 fn freed(t: &mut [u32]) {
     say::purge(t, b"and purged", 0);
     say::write(t, b"a write in the room freed", 0, 65);
@@ -102,18 +106,19 @@ fn lines() {
     say::frame(b"0011EF");
 }
 
-// A table one word too short, and one too long.
+// A table one word too short.
 fn too_short() {
     let mut words = [0u32; 4624];
     say::fresh(&mut words, b"4624 words", 2);
 }
 
+// And one too long.
 fn too_long() {
     let mut words = [0u32; 4626];
     say::fresh(&mut words, b"4626 words", 2);
 }
 
-// The cases of room, then those of the last timestamp and of purging.
+// The cases of room.
 fn room(t: &mut [u32]) {
     full(t);
     none(t);
@@ -121,6 +126,7 @@ fn room(t: &mut [u32]) {
     one_coming(t);
 }
 
+// Those of the last timestamp and of purging.
 fn ends(t: &mut [u32]) {
     last(t);
     goes_on(t);
@@ -128,6 +134,7 @@ fn ends(t: &mut [u32]) {
     freed(t);
 }
 
+// Every case, on one table where it can be.
 fn main() {
     too_short();
     too_long();

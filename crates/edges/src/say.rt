@@ -10,7 +10,7 @@ fn field(label: &[u8], n: u32) {
     io::print_decimal(1, n as u64);
 }
 
-// One line: the case, the refusal number (0 for none), the two counts, and the table's digest.
+// One line: the case, the refusal number (0 for none), the two counts, and node 0's held number.
 fn line(name: &[u8], number: u32, first: u32, second: u32, held: u32) {
     io::write_all(1, name);
     field(b": refusal ", number);
@@ -25,7 +25,7 @@ fn word(t: &[u32], at: usize) -> u32 {
     if at < t.len() { t[at] } else { 0 }
 }
 
-// A number that the table's words give, each by its place.
+// A number of all the words: it differs where one word differs.
 fn digest(t: &[u32]) -> u64 {
     let mut sum: u64 = 0;
     let mut i: usize = 0;
@@ -36,7 +36,7 @@ fn digest(t: &[u32]) -> u64 {
     sum
 }
 
-// Says where a refused step changed a word.
+// Says so if a refused step changed a word.
 fn unchanged(before: u64, after: u64) {
     if before != after {
         io::write_all(1, b"a refused step changed the table\n");
@@ -64,7 +64,7 @@ fn act(t: &mut [u32], name: &[u8], action: Action) {
     reply(t, name, r, before);
 }
 
-// A write, a session and a purge; the block is 16 and the verdict 20 throughout.
+// A write of block 16 with verdict 20.
 pub fn write(t: &mut [u32], name: &[u8], node: u8, timestamp: u32) {
     let action = Action::Write {
         node,
@@ -75,6 +75,7 @@ pub fn write(t: &mut [u32], name: &[u8], node: u8, timestamp: u32) {
     act(t, name, action);
 }
 
+// A session of 0 with 1.
 pub fn session(t: &mut [u32], name: &[u8], ca: u32, cb: u32, outcome: u8) {
     let action = Action::Session {
         a: 0,
@@ -86,6 +87,7 @@ pub fn session(t: &mut [u32], name: &[u8], ca: u32, cb: u32, outcome: u8) {
     act(t, name, action);
 }
 
+// A purge.
 pub fn purge(t: &mut [u32], name: &[u8], node: u8) {
     act(t, name, Action::Purge { node });
 }
@@ -100,7 +102,7 @@ pub fn fresh(t: &mut [u32], name: &[u8], n: u32) {
     }
 }
 
-// What a single line says: its refusal, or 0.
+// The refusal number of a line, 0 for none.
 fn number_of(answer: Line) -> u32 {
     match answer {
         Line::Begin { .. } => 0,
@@ -109,6 +111,7 @@ fn number_of(answer: Line) -> u32 {
     }
 }
 
+// A single line, given to the frame reader.
 pub fn frame(name: &[u8]) {
     io::write_all(1, b"line ");
     io::write_all(1, name);

@@ -15,7 +15,8 @@ use Rattle.meaning.specs.declared.Line.the-variants.{Begin, Act, Refused}
 use Rattle.meaning.specs.Rows.{given}
 use Rattle.meaning.specs.Table.{countRight}
 use Rattle.meaning.specs.Frames.{digitValue, bytesOf, allDigits, total, number, widths, digitsOf, unpacked, actionOf, lineKind, lineFields, lineRefusal, readLine}
-use Rattle.meaning.proofs.FrameLaws.{and-left, and-right, length-bytesOf, byte-at, digits-at, digits-all, stray, bytes-take, bytes-drop, bytes-of, total-append, total-below, number-snoc, number-below, refused-stray, refused-empty, refused-length, refusal-whole, read-refused, read-begin, read-act}
+use Rattle.meaning.proofs.FrameLaws.{length-bytesOf, byte-at, digits-at, digits-all, stray, bytes-take, bytes-drop, bytes-of, total-append, total-below, number-snoc, number-below, refused-stray, refused-empty, refused-length, refusal-whole, read-refused, read-begin, read-act}
+use Rattle.meaning.proofs.RowLaws.{and-left, and-right}
 use Rattle.frames.specs.Fields.{pairAt, oddStray, scanned, fieldAt, Whole, lengthOf, writeAt, sessionAt, purgeAt, startAt, startOf, outcomeAt, faultOf}
 
 abbrev Digit : List ℕ → ℕ → Type 0

@@ -17,15 +17,7 @@ use Rattle.meaning.specs.Rows.{given}
 use Rattle.meaning.specs.Table.{countRight, place}
 use Rattle.meaning.specs.Steps.{outcomeAbove}
 use Rattle.meaning.specs.Frames.{digitValue, bytesOf, allDigits, total, number, digitsOf, actionOf, lineKind, lineFields, lineRefusal, readLine, spelled, highFirst, packed, sealed, widths, frameOf, frame, startFrame, writerRefusal, starterRefusal, frameReply, frameAfter, startReply, startAfter, lineValues, lineIs, meant, framedValues, framed}
-
--- both tests of a conjunction pass
-pub and-left : (a b : Bool) → a && b ≡ true → a ≡ true
-and-left true b p = refl
-and-left false b p = p
-
-pub and-right : (a b : Bool) → a && b ≡ true → b ≡ true
-and-right true b p = p
-and-right false b p = cc
+use Rattle.meaning.proofs.RowLaws.{and-left, and-right}
 
 -- a digit's number, and 16 for any other character
 pub digit-decimal : (c : ℕ) → 48 ≤ c → c ≤ 57 → digitValue c ≡ c - 48

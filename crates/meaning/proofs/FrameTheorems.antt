@@ -19,7 +19,8 @@ use Rattle.meaning.specs.Rows.{given}
 use Rattle.meaning.specs.Table.{countRight, place}
 use Rattle.meaning.specs.Steps.{outcomeAbove}
 use Rattle.meaning.specs.Frames.{spelled, bytesOf, allDigits, total, kinds, summed, widths, digitsOf, packed, unpacked, kindOf, fieldsOf, actionOf, sealed, frameOf, frame, startFrame, fit, wide, lineKind, lineFields, lineRefusal, readLine, writerRefusal, starterRefusal, frameReply, frameAfter, startReply, startAfter}
-use Rattle.meaning.proofs.FrameLaws.{and-right, Bytes, bytes-drop, bytes-of, length-bytesOf, length-spelled, refusal-whole, read-refused, read-begin, read-act, framed-right, framed-wrong, started-right, started-wrong}
+use Rattle.meaning.proofs.FrameLaws.{Bytes, bytes-drop, bytes-of, length-bytesOf, length-spelled, refusal-whole, read-refused, read-begin, read-act, framed-right, framed-wrong, started-right, started-wrong}
+use Rattle.meaning.proofs.RowLaws.{given-none, and-right}
 use Rattle.meaning.proofs.FrameInverses.{bytesOf-spelled, digits-spelled, spelled-bytesOf, bytes-packed, length-packed, unpacked-packed, packed-unpacked, fit-unpacked, to-last, total-sealed, check-of, bytes-at, bytes-sealed, length-sealed}
 
 -- a frame without its LF
@@ -129,10 +130,6 @@ record Good (l : List ℕ) : Type 0 where
   outcome : eqb (lineKind (bytesOf l)) 2 && ltb 3 (getD (lineFields (bytesOf l)) 4 0) ≡ false
   sum : total (bytesOf l) ≡ 0
   start : eqb (lineKind (bytesOf l)) 0 && not (countRight (getD (lineFields (bytesOf l)) 0 0)) ≡ false
-
-given-none : (b : Bool) (k rest : ℕ) → given b (suc k) rest ≡ 0 → (b ≡ false) × (rest ≡ 0)
-given-none true k rest p = absurd (omega arith)
-given-none false k rest p = (refl, p)
 
 good : (l : List ℕ) → lineRefusal l ≡ 0 → Good l
 unfolding lineRefusal

@@ -27,7 +27,7 @@ use Rattle.meaning.proofs.PlaceLaws.{
   set-place,
 }
 use Rattle.meaning.proofs.RowLaws.{length-records, length-words, length-above, words-append, words-none}
-use Rattle.meaning.proofs.TableLaws.{Sound, logWords}
+use Rattle.meaning.proofs.TableLaws.{Sound, log-length, logWords}
 
 -- four elements more of a beginning
 take-four :
@@ -89,17 +89,13 @@ module _ (t : List ℕ) (s : Sound t) (p : ℕ) (h : p < count t) where
       let lp = length-part (logAt p) (4 * logMost) t (omega arith) in
       words-records (held t p) (part (logAt p) (4 * logMost) t) (omega arith) ∙ part-part (logAt p) (4 * logMost) (4 * held t p) t (omega arith)
 
-  pub log-length : length (node t p .log) ≡ held t p
-  unfolding node
-  log-length = length-records (held t p) (part (logAt p) (4 * logMost) t)
-
   -- records appended to the log
   pub put-log-more : (x : Node) (rs : List Record) → x .log ≡ node t p .log ++ rs → held t p + length rs ≤ logMost → place (logAt p) (logWords p x t) t ≡ place (logAt p + 4 * held t p) (words rs) t
   put-log-more x rs e fits =
       let l = long in
       let g = high in
       let r = room in
-      let ll = log-length in
+      let ll = log-length t p in
       let la = length-append (node t p .log) rs in
       let lx = ap length e in
       let lw = length-words rs in
@@ -174,7 +170,7 @@ module _ (t : List ℕ) (s : Sound t) (p : ℕ) (h : p < count t) where
     pub put-grown : (x : Node) → x .log ≡ node t p .log ++ rs → putNode p x t ≡ place (summaryAt p) (x .summary) (place (acksAt p) (x .acks) (grown rs))
     unfolding putNode
     put-grown x e =
-        let ll = log-length in
+        let ll = log-length t p in
         let la = length-append (node t p .log) rs in
         let lx = ap length e in
         let k : length (x .log) ≡ held t p + length rs = omega arith in
@@ -221,7 +217,7 @@ module _ (t : List ℕ) (s : Sound t) (p : ℕ) (h : p < count t) where
       let lw = length-words rs in
       let lz : length z ≡ 4 * (held t p - k) = length-replicate (4 * (held t p - k)) 0 in
       let few = length-above limit (node t p .log) in
-      let ll = log-length in
+      let ll = log-length t p in
       let ly = length-append (words rs) z in
       let u : List ℕ = place (logAt p) (words rs ++ z) t in
       let fu : logAt p + length (words rs ++ z) ≤ length t = omega arith in

@@ -18,13 +18,8 @@ use Rattle.meaning.specs.Rows.{given, keep, raise, least, newer, above, 
 use Rattle.meaning.specs.Table.{Node, tableWords, nodesMost, logMost, countAt, heldAt, logAt, part, count, held, node, putNode, fresh, recordSound, sound}
 use Rattle.meaning.specs.Node.{own, wrote, opened, finished, ended, purged}
 use Rattle.meaning.specs.Steps.{finishesA, finishesB, outcomeAbove, nodeAbsent, nodeTwice, clockBack, overfull, noRoom, refusal, acted, reported, reply, after}
-use Rattle.meaning.proofs.RowLaws.{all, all-append, all-keep, length-keep, and-both, length-raise, length-records, records-take}
+use Rattle.meaning.proofs.RowLaws.{given-none, all, all-append, all-keep, length-keep, and-both, length-raise, length-records, records-take}
 use Rattle.meaning.proofs.TableLaws.{Sound, Shaped, sound-facts, facts-sound, sound-put, node-shaped, node-same, node-other, put-count, put-held-other, held-log}
-
--- Refusals in order: none is given only where no test passes
-given-none : (b : Bool) (k rest : ℕ) → given b (suc k) rest ≡ 0 → (b ≡ false) × (rest ≡ 0)
-given-none true k rest h = absurd (omega arith)
-given-none false k rest h = (refl, h)
 
 -- What an accepted step is known to meet
 pub record Accepted (t : List ℕ) (x : Action) : Type 0 where

@@ -63,7 +63,7 @@ pub record Shaped (n : ℕ) (x : Node) : Type 0 where
   pub acksLong : length (x .acks) ≡ n
   pub logShort : length (x .log) ≤ logMost
 
-log-length : (t : List ℕ) (p : ℕ) → length (node t p .log) ≡ held t p
+pub log-length : (t : List ℕ) (p : ℕ) → length (node t p .log) ≡ held t p
 unfolding node
 log-length t p = length-records (held t p) (part (logAt p) (4 * logMost) t)
 
