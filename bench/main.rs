@@ -271,7 +271,7 @@ fn journal(rows: &mut Vec<Row>, name: &str, n: u8, actions: &[Action], per: usiz
     let mut samples: Vec<Box<dyn FnMut() -> f64>> = Vec::new();
     for api in apis() {
         let (text, printed) = (text.clone(), printed.clone());
-        let (mut table, mut out) = (vec![0u32; WORDS], vec![0u8; 8192]);
+        let (mut table, mut out) = (vec![0u32; WORDS], vec![0u8; 12288]);
         samples.push(Box::new(move || {
             let began = Instant::now();
             let length = unsafe { (api.replay)(black_box(text.as_ptr()), text.len(), table.as_mut_ptr(), WORDS, out.as_mut_ptr(), out.len()) };

@@ -8,7 +8,7 @@
 
 enum { NODES = 3 };
 
-static uint32_t table[POLLENCART_WORDS];
+static uint32_t table[POLLENCART_TABLE];
 
 static void refused(const char *what, uint32_t number)
 {
@@ -29,7 +29,7 @@ static void finding(uint8_t node, uint32_t timestamp, uint32_t block, uint8_t ve
     size_t line = length - 1; /* the readers take the line without its LF */
     refused("line", pollencart_check(frame, line));
     if (pollencart_kind(frame, line) == 1)
-        refused("write", pollencart_write(table, POLLENCART_WORDS, (uint8_t)pollencart_field(frame, line, 0), pollencart_field(frame, line, 1),
+        refused("write", pollencart_write(table, POLLENCART_TABLE, (uint8_t)pollencart_field(frame, line, 0), pollencart_field(frame, line, 1),
                                           pollencart_field(frame, line, 2), (uint8_t)pollencart_field(frame, line, 3)));
 }
 
@@ -37,28 +37,28 @@ static void finding(uint8_t node, uint32_t timestamp, uint32_t block, uint8_t ve
 static void meet(uint8_t a, uint8_t b, uint32_t now, uint8_t outcome)
 {
     uint32_t to_a, to_b;
-    refused("session", pollencart_session(table, POLLENCART_WORDS, a, b, now, now, outcome, &to_a, &to_b));
+    refused("session", pollencart_session(table, POLLENCART_TABLE, a, b, now, now, outcome, &to_a, &to_b));
     printf("session %d with %d at %" PRIu32 ", outcome %d: %" PRIu32 " to %d, %" PRIu32 " to %d\n", a, b, now, outcome, to_a, a, to_b, b);
 }
 
 static void purge(uint8_t node)
 {
     uint32_t removed;
-    refused("purge", pollencart_purge(table, POLLENCART_WORDS, node, &removed));
-    printf("purge of node %d: %" PRIu32 " removed, %" PRIu32 " held\n", node, removed, pollencart_held(table, POLLENCART_WORDS, node));
+    refused("purge", pollencart_purge(table, POLLENCART_TABLE, node, &removed));
+    printf("purge of node %d: %" PRIu32 " removed, %" PRIu32 " held\n", node, removed, pollencart_held(table, POLLENCART_TABLE, node));
 }
 
 /* Scrubbed, touched and the gap in one node's log. */
 static void count(uint8_t node)
 {
     uint32_t scrubbed, touched;
-    refused("count", pollencart_count_node(table, POLLENCART_WORDS, node, &scrubbed, &touched));
+    refused("count", pollencart_count_node(table, POLLENCART_TABLE, node, &scrubbed, &touched));
     printf("node %d: %" PRIu32 " scrubbed, %" PRIu32 " touched, gap %" PRIu32 "\n", node, scrubbed, touched, scrubbed - touched);
 }
 
 int main(void)
 {
-    refused("fresh", pollencart_fresh(table, POLLENCART_WORDS, NODES));
+    refused("fresh", pollencart_fresh(table, POLLENCART_TABLE, NODES));
 
     finding(0, 5, 4096, 0x20);  /* read from platter, good */
     finding(0, 7, 4097, 0x10);  /* answered from page cache */
@@ -82,7 +82,7 @@ int main(void)
     for (uint8_t node = 0; node < NODES; node++)
         purge(node);
 
-    uint32_t late = pollencart_write(table, POLLENCART_WORDS, 0, 3, 1, 0x20);
-    printf("a write at 3, behind node 0's entry of %" PRIu32 ": refused with %" PRIu32 "\n", pollencart_summary(table, POLLENCART_WORDS, 0, 0), late);
+    uint32_t late = pollencart_write(table, POLLENCART_TABLE, 0, 3, 1, 0x20);
+    printf("a write at 3, behind node 0's entry of %" PRIu32 ": refused with %" PRIu32 "\n", pollencart_summary(table, POLLENCART_TABLE, 0, 0), late);
     return 0;
 }

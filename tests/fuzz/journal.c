@@ -4,7 +4,7 @@
 
 static struct part journal_part, table_part, out_part;
 static uint8_t made[1 << 17], text[POLLENCART_TEXT];
-static uint32_t table[POLLENCART_WORDS];
+static uint32_t table[POLLENCART_TABLE];
 
 /* Makes a journal of frames: each 12 bytes of data are a kind's fields; a rare one is left damaged. */
 static size_t frames(const uint8_t *data, size_t size)
@@ -47,8 +47,8 @@ int LLVMFuzzerTestOneInput(const uint8_t *data, size_t size)
     uint32_t *words = (uint32_t *)(void *)lend(&table_part, sizeof table, sizeof table, low);
     uint8_t *out = lend(&out_part, POLLENCART_TEXT, POLLENCART_TEXT, low);
     memcpy(journal, made, many);
-    uint32_t length = pollencart_replay(journal, many, words, POLLENCART_WORDS, out, POLLENCART_TEXT);
-    same(length == plain_replay(made, many, table, POLLENCART_WORDS, text, POLLENCART_TEXT), "the length of the text");
+    uint32_t length = pollencart_replay(journal, many, words, POLLENCART_TABLE, out, POLLENCART_TEXT);
+    same(length == plain_replay(made, many, table, POLLENCART_TABLE, text, POLLENCART_TEXT), "the length of the text");
     same(!memcmp(out, text, length), "the text");
     same(!memcmp(journal, made, many), "the journal's bytes");
     same(text[0] == 'B' || !memcmp(words, table, sizeof table), "the table");

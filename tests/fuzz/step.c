@@ -24,12 +24,12 @@ static uint32_t number(size_t bytes)
 static size_t fill(void)
 {
     uint32_t how = number(1), state = number(4) | 1;
-    size_t length = how % 32 == 31 ? number(2) % 8192 : POLLENCART_WORDS;
+    size_t length = how % 32 == 31 ? number(2) % 8192 : POLLENCART_TABLE;
     for (size_t i = 0; i < length; i++) {
         state = state * 1664525u + 1013904223u;
         plain[i] = how & 32 ? state >> 28 : state;
     }
-    if (length != POLLENCART_WORDS)
+    if (length != POLLENCART_TABLE)
         return length;
     uint32_t n = plain[0] = 2 + number(1) % 15;
     for (uint32_t p = 0; p < n; p++) {
@@ -40,7 +40,7 @@ static size_t fill(void)
         }
     }
     for (uint32_t many = number(1) % 8; many; many--) {
-        uint32_t at = number(2) % POLLENCART_WORDS;
+        uint32_t at = number(2) % POLLENCART_TABLE;
         plain[at] = how & 64 ? number(4) : number(1);
     }
     return length;

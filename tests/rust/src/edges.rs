@@ -171,5 +171,8 @@ pub fn all(library: &mut Library) -> Result<(), String> {
     all_steps(library)?;
     all_lines(library)?;
     all_verdicts(library)?;
-    all_journals(library)
+    if cfg!(replay) {
+        all_journals(library)?;
+    }
+    Ok(())
 }

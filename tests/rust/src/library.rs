@@ -10,7 +10,7 @@ use std::process::{Child, Command, Stdio};
 const HALF: usize = 16 << 20;
 
 /// The room for a replay's text that is always enough, as the header says.
-pub const TEXT: u32 = 8192;
+pub const TEXT: u32 = 12288;
 
 #[cfg(linked)]
 extern "C" {

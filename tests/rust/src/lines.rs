@@ -113,7 +113,7 @@ fn compare_line(line: &[u8], answers: &mut Answers, reached: &mut Reached) -> Re
 /// Compares a frame's writer: the refusal, the length and every lent byte.
 fn compare_frame(what: Frame, room: usize, answers: &mut Answers, reached: &mut Reached) -> Result<(), String> {
     let (name, made) = match what {
-        Frame::Start(n) => ("start", Ok(start_frame(n))),
+        Frame::Start(n) => ("start", if (2..=16).contains(&n) { Ok(start_frame(n)) } else { Err(15) }),
         Frame::Step(action) => {
             let name = match action {
                 Action::Write { .. } => "write",
@@ -139,7 +139,7 @@ fn compare_frame(what: Frame, room: usize, answers: &mut Answers, reached: &mut 
 
 fn a_frame(rng: &mut Random) -> Frame {
     if rng.percent(20) {
-        return Frame::Start(2 + rng.below(15) as u8);
+        return Frame::Start(if rng.percent(20) { rng.among(&[0, 1, 17, 255]) } else { 2 + rng.below(15) as u8 });
     }
     match action(rng) {
         Action::Session { a, b, ca, cb, .. } if rng.percent(30) => Frame::Step(Action::Session { a, b, ca, cb, outcome: rng.among(&[3, 4, 5, 255]) }),

@@ -325,41 +325,50 @@ pub fn fields(frame: Frame) -> (u32, Vec<u32>) {
     }
 }
 
-/// The lines of a journal, each with its place, up to the first refused: its number and the refusal.
-pub fn lines(journal: &[u8]) -> Result<Vec<Frame>, (usize, u32)> {
-    let (mut at, mut frames) = (0, Vec::new());
-    while at < journal.len() {
-        let line = frames.len() + 1;
-        let end = journal[at..].iter().position(|&c| c == b'\n').ok_or((line, 14))? + at;
-        let frame = read(&journal[at..end]).map_err(|refusal| (line, refusal))?;
-        if matches!(frame, Frame::Start(_)) != (at == 0) {
-            return Err((line, 15));
-        }
-        frames.push(frame);
-        at = end + 1;
-    }
-    if frames.is_empty() {
-        Err((1, 15))
+/// The line of a journal at a place, and the place after it.
+fn next_line(journal: &[u8], at: usize) -> Result<(Frame, usize), u32> {
+    let end = journal[at..].iter().position(|&c| c == b'\n').ok_or(14u32)? + at;
+    let frame = read(&journal[at..end])?;
+    if matches!(frame, Frame::Start(_)) == (at == 0) {
+        Ok((frame, end + 1))
     } else {
-        Ok(frames)
+        Err(15)
     }
 }
 
-/// What the replay program prints for a journal, and the table it then has, if no line is refused.
+/// The lines of a journal up to the first refused, and its refusal, 0 if there is none.
+pub fn lines(journal: &[u8]) -> (Vec<Frame>, u32) {
+    let (mut at, mut frames) = (0, Vec::new());
+    while at < journal.len() {
+        match next_line(journal, at) {
+            Ok((frame, next)) => {
+                frames.push(frame);
+                at = next;
+            }
+            Err(refusal) => return (frames, refusal),
+        }
+    }
+    let refusal = if frames.is_empty() { 15 } else { 0 };
+    (frames, refusal)
+}
+
+/// What the replay program prints for a journal, and the table that the steps before a refused line,
+/// or all of them, leave; none where no start is read.
 pub fn replay(journal: &[u8]) -> (String, Option<Table>) {
     if journal.len() > JOURNAL {
         return ("BAD 0 16\n".into(), None);
     }
-    let frames = match lines(journal) {
-        Ok(frames) => frames,
-        Err((line, refusal)) => return (format!("BAD {line} {refusal}\n"), None),
-    };
-    let Frame::Start(n) = frames[0] else { unreachable!() };
+    let (frames, refusal) = lines(journal);
+    let bad = format!("BAD {} {refusal}\n", frames.len() + 1);
+    let Some(&Frame::Start(n)) = frames.first() else { return (bad, None) };
     let mut table = fresh(WORDS, u32::from(n)).unwrap();
     let mut refused = 0;
     for frame in &frames[1..] {
         let Frame::Step(action) = *frame else { unreachable!() };
         refused += usize::from(table.apply(action).refusal != 0);
+    }
+    if refusal != 0 {
+        return (bad, Some(table));
     }
     let mut text = format!("N {} STEPS {} REFUSED {}\n", n, frames.len() - 1, refused);
     for p in 0..table.n() {
