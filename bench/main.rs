@@ -360,6 +360,9 @@ fn main() {
         journals(&mut rows);
     }
     counts(&mut rows);
+    // words on the command line choose the rows whose name has one of them
+    let chosen: Vec<String> = std::env::args().skip(1).collect();
+    rows.retain(|row| chosen.is_empty() || chosen.iter().any(|word| row.name.contains(word)));
     println!("| ns for one | {} | ratio | spread |", COLUMNS.join(" | "));
     println!("|---|{}---:|---:|", "---:|".repeat(COLUMNS.len()));
     let mut below = Vec::new();
