@@ -5,6 +5,8 @@
  * calls from a shared file: for an archive of another kind of machine, under its emulator. */
 #include "pollencart.h"
 
+uint32_t pollencart_replay(const uint8_t *, size_t, uint32_t *, size_t, uint8_t *, size_t);
+
 /* Declared here so that no C library headers are needed for the other machine. */
 void *mmap(void *, size_t, int, int, int, long);
 int mprotect(void *, size_t, int);
@@ -96,8 +98,7 @@ static uint32_t *replay(const uint32_t *c, uint32_t *out)
     __builtin_memset(scratch, 0xA5, 4 * (size_t)words);
     uint8_t *text = lend(&the_out, 0, room);
     __builtin_memset(text, 0xA5, room);
-#ifdef REPLAY
-    uint32_t pollencart_replay(const uint8_t *, size_t, uint32_t *, size_t, uint8_t *, size_t);
+#ifdef HAS_REPLAY
     *out++ = pollencart_replay(journal, size, scratch, words, text, room);
 #else
     *out++ = journal[0];
