@@ -70,13 +70,6 @@ macro_rules! api {
     }};
 }
 
-/// A library without replay has its rows left out.
-#[cfg(not(replay))]
-#[no_mangle]
-extern "C" fn pollencart_replay(_: *const u8, _: usize, _: *mut u32, _: usize, _: *mut u8, _: usize) -> u32 {
-    0
-}
-
 fn apis() -> [Api; 3] {
     [
         api!(pollencart_check pollencart_kind pollencart_field pollencart_frame_start pollencart_frame_write pollencart_frame_session pollencart_frame_purge pollencart_write pollencart_session pollencart_purge pollencart_count pollencart_replay),
@@ -356,9 +349,7 @@ fn main() {
     lines(&mut rows);
     frames(&mut rows);
     steps(&mut rows);
-    if cfg!(replay) {
-        journals(&mut rows);
-    }
+    journals(&mut rows);
     counts(&mut rows);
     // words on the command line choose the rows whose name has one of them
     let chosen: Vec<String> = std::env::args().skip(1).collect();

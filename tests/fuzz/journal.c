@@ -2,10 +2,8 @@
  * the same text and the same table as the plain version. */
 #include "fuzz.h"
 
-enum { TEXT = 12288 };
-
 static struct part journal_part, table_part, out_part;
-static uint8_t made[1 << 17], text[TEXT];
+static uint8_t made[1 << 17], text[POLLENCART_TEXT];
 static uint32_t table[POLLENCART_TABLE];
 
 /* Makes a journal of frames: each 12 bytes of data are a kind's fields; a rare one is left damaged. */
@@ -47,11 +45,11 @@ int LLVMFuzzerTestOneInput(const uint8_t *data, size_t size)
     int low = many % 2;
     uint8_t *journal = lend(&journal_part, sizeof made, many, low);
     uint32_t *words = (uint32_t *)(void *)lend(&table_part, sizeof table, sizeof table, low);
-    uint8_t *out = lend(&out_part, TEXT, TEXT, low);
+    uint8_t *out = lend(&out_part, POLLENCART_TEXT, POLLENCART_TEXT, low);
     memcpy(journal, made, many);
     memset(words, 0xA5, sizeof table), memset(table, 0xA5, sizeof table);
-    uint32_t length = pollencart_replay(journal, many, words, POLLENCART_TABLE, out, TEXT);
-    same(length == plain_replay(made, many, table, POLLENCART_TABLE, text, TEXT), "the length of the text");
+    uint32_t length = pollencart_replay(journal, many, words, POLLENCART_TABLE, out, POLLENCART_TEXT);
+    same(length == plain_replay(made, many, table, POLLENCART_TABLE, text, POLLENCART_TEXT), "the length of the text");
     same(!memcmp(out, text, length), "the text");
     same(!memcmp(journal, made, many), "the journal's bytes");
     same(!memcmp(words, table, sizeof table), "the table");

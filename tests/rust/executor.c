@@ -5,7 +5,8 @@
  * calls from a shared file: for an archive of another kind of machine, under its emulator. */
 #include "pollencart.h"
 
-uint32_t pollencart_replay(const uint8_t *, size_t, uint32_t *, size_t, uint8_t *, size_t);
+/* The number stands in src/library.rs and bench/ too. */
+_Static_assert(POLLENCART_TEXT == 12288, "the room for a replay's text");
 
 /* Declared here so that no C library headers are needed for the other machine. */
 void *mmap(void *, size_t, int, int, int, long);
@@ -98,11 +99,7 @@ static uint32_t *replay(const uint32_t *c, uint32_t *out)
     __builtin_memset(scratch, 0xA5, 4 * (size_t)words);
     uint8_t *text = lend(&the_out, 0, room);
     __builtin_memset(text, 0xA5, room);
-#ifdef HAS_REPLAY
     *out++ = pollencart_replay(journal, size, scratch, words, text, room);
-#else
-    *out++ = journal[0];
-#endif
     out = put(out, text, room);
     return put(out, scratch, 4 * (size_t)words);
 }

@@ -1,2 +1,3 @@
+pub mod OneReply
 pub mod ReadLaws
 pub mod WriteLaws

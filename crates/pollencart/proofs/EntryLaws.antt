@@ -115,14 +115,6 @@ module _ (t : List ℕ) (p : ℕ) where
     unfolding recordWord
     word-beyond h q = rw h (no-word (getD (node t p .log) i nothing) k q)
 
-    pub word-fits : (n at : ℕ) → present t p ≡ true → n ≡ held t p → i < n → k ≤ 3 → at ≡ logAt p → at + 4 * i + k < length t
-    word-fits n at h e q m a =
-        let s = is-sound h in
-        let r = s .room p (is-node h) in
-        let l = s .long in
-        let b = below h in
-        omega arith
-
     pub record-is : (n at : ℕ) → present t p ≡ true → n ≡ held t p → i < n → k ≤ 3 → at ≡ logAt p → getD t (at + 4 * i + k) 0 ≡ recordWord t p i k
     unfolding recordWord node
     record-is n at h e q m a =

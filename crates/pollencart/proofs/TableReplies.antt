@@ -1,9 +1,9 @@
 -- Two replies that a contract of tables.rt or entries.rt allows are equal: the number returned, each count stored and every word of the table at exit.
-use mathlib.Core.Path.{_≡_, sym, ap₂, _∙_}
-use mathlib.Core.List.{List, _∷_}
-use Prim.Native.Nat.{ℕ}
+use mathlib.Core.Path.{sym, _∙_}
+use mathlib.Core.List.{_∷_}
 use denote.Ref.{now}
 use Rattle.meaning.proofs.OneReply.{OneReply, OneResult}
+use Rattle.pollencart.proofs.ValueLaws.{led}
 use Rattle.pollencart.proofs.tables.pollencart_fresh.Kinds as fresh-kinds
 use Rattle.pollencart.proofs.tables.pollencart_fresh.Reads as fresh
 use Rattle.pollencart.proofs.tables.pollencart_write.Kinds as write-kinds
@@ -20,10 +20,6 @@ use Rattle.pollencart.proofs.entries.pollencart_held.Kinds as held-kind
 use Rattle.pollencart.proofs.entries.pollencart_held.Reads as held
 use Rattle.pollencart.proofs.entries.pollencart_record.Kinds as record-kinds
 use Rattle.pollencart.proofs.entries.pollencart_record.Reads as record-of
-
--- a number before a list, each the same
-led : {x y m : ℕ} {xs ys : List ℕ} → x ≡ m → y ≡ m → xs ≡ ys → (x ∷ xs) ≡ (y ∷ ys)
-led p q e = ap₂ _∷_ (p ∙ sym q) e
 
 pub one-fresh : OneReply 1 fresh-kinds.ps fresh-kinds.r fresh.Post (λ κs x s. x ∷ now (s .0))
 one-fresh κs a x y s s' p q = led (p .0) (q .0) (p .1 ∙ sym (q .1))

@@ -1,5 +1,5 @@
 -- Laws of the values that C is given of a line, of a writer's answer and of a step's reply.
-use mathlib.Core.Path.{_≡_, refl, sym, _∙_, ap}
+use mathlib.Core.Path.{_≡_, refl, sym, _∙_, ap, ap₂}
 use mathlib.Core.List.{List, _∷_}
 use Prim.Native.Nat.{ℕ, suc, _+_, _≤_}
 use native.Mathlib.Omega.{arith}
@@ -46,3 +46,7 @@ length-case a k e p = rw e at p
 -- a value of a reply, handed on
 pub reply-value : (x y : Reply) (i r : ℕ) → x ≡ y → r ≡ getD (replyValues x) i 0 → r ≡ getD (replyValues y) i 0
 reply-value x y i r e p = p ∙ ap (λ (z : Reply). getD (replyValues z) i 0) e
+
+-- a number before a list, each the same
+pub led : {x y m : ℕ} {xs ys : List ℕ} → x ≡ m → y ≡ m → xs ≡ ys → (x ∷ xs) ≡ (y ∷ ys)
+led p q e = ap₂ _∷_ (p ∙ sym q) e

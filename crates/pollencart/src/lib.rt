@@ -2,4 +2,5 @@
 pub mod counts;
 pub mod entries;
 pub mod framing;
+pub mod replays;
 pub mod tables;

@@ -109,7 +109,7 @@ pub fn run(s: &[u8], t: &mut [u32]) -> Outcome
 // The text of a run's outcome and of the table that it leaves.
 fn told(s: &[u8], t: &mut [u32], out: &mut [u8]) -> usize
     requires { ⌜ (length (now t) ≡ tableWords) × (textMost ≤ length (now out)) ⌝ }
-    ensures { λ r. ⌜ (r ≡ length (printed (replayed (now (s .entry))) (replayAfter [] (now (s .entry))))) × (now (out .exit) ≡ place 0 (printed (replayed (now (s .entry))) (replayAfter [] (now (s .entry)))) (now (out .entry))) × (now (t .exit) ≡ replayAfter (now (t .entry)) (now (s .entry))) × (r ≤ length (now (out .entry))) ⌝ }
+    ensures { λ r. ⌜ (r ≡ length (printed (replayed (now (s .entry))) (replayAfter [] (now (s .entry))))) × (now (out .exit) ≡ place 0 (printed (replayed (now (s .entry))) (replayAfter [] (now (s .entry)))) (now (out .entry))) × (now (t .exit) ≡ replayAfter (now (t .entry)) (now (s .entry))) × (r ≤ length (now (out .entry))) × (r ≤ textMost) ⌝ }
 {
     let outcome = run(s, t);
     text::show(out, outcome, t)
@@ -117,7 +117,7 @@ fn told(s: &[u8], t: &mut [u32], out: &mut [u8]) -> usize
 
 // What the program prints of a journal, from place 0 of the lent bytes, and its length.
 pub fn replay(s: &[u8], t: &mut [u32], out: &mut [u8]) -> usize
-    ensures { λ r. ⌜ (r ≡ length (textWritten (now (s .entry)) (now (t .entry)) (now (out .entry)))) × (now (out .exit) ≡ place 0 (textWritten (now (s .entry)) (now (t .entry)) (now (out .entry))) (now (out .entry))) × (now (t .exit) ≡ tableLeft (now (s .entry)) (now (t .entry)) (now (out .entry))) × (r ≤ length (now (out .entry))) ⌝ }
+    ensures { λ r. ⌜ (r ≡ length (textWritten (now (s .entry)) (now (t .entry)) (now (out .entry)))) × (now (out .exit) ≡ place 0 (textWritten (now (s .entry)) (now (t .entry)) (now (out .entry))) (now (out .entry))) × (now (t .exit) ≡ tableLeft (now (s .entry)) (now (t .entry)) (now (out .entry))) × (r ≤ length (now (out .entry))) × (r ≤ textMost) ⌝ }
 {
     if t.len() != TABLE_WORDS {
         return 0;

@@ -147,5 +147,6 @@ unfolding printed
 text-bad out line k t h = text-whole out (Bad line k) t h refl
 
 -- a text written from place 0 is the whole answer
-pub whole : {t t′ : List ℕ} {r : ℕ} {text : List ℕ} {most : ℕ} → most ≤ length t → Wrote t 0 text most r t′ → (r ≡ length text) × (t′ ≡ place 0 text t) × (r ≤ length t)
-whole h w = (omega (arith, w .to), w .is, omega (arith, w .within))
+pub whole : {t t′ : List ℕ} {r : ℕ} {text : List ℕ} {most : ℕ} → most ≤ length t → most ≤ textMost → Wrote t 0 text most r t′
+    → (r ≡ length text) × (t′ ≡ place 0 text t) × (r ≤ length t) × (r ≤ textMost)
+whole h m w = (omega (arith, w .to), w .is, omega (arith, w .within), omega (arith, w .within))

@@ -198,7 +198,7 @@ fn done_text(out: &mut [u8], n: u32, steps: usize, refused: usize, t: &[u32]) ->
 // The text of a replay's outcome and table, from place 0 of the buffer, and its length.
 // Nothing is written into a buffer of less than TEXT_MOST bytes, or where the table has not the words to print.
 pub fn show(out: &mut [u8], outcome: Outcome, t: &[u32]) -> usize
-    ensures { λ r. ⌜ (r ≡ length (textFor (now (out .entry)) outcome (now (t .entry)))) × (now (out .exit) ≡ place 0 (textFor (now (out .entry)) outcome (now (t .entry))) (now (out .entry))) × (r ≤ length (now (out .entry))) ⌝ }
+    ensures { λ r. ⌜ (r ≡ length (textFor (now (out .entry)) outcome (now (t .entry)))) × (now (out .exit) ≡ place 0 (textFor (now (out .entry)) outcome (now (t .entry))) (now (out .entry))) × (r ≤ length (now (out .entry))) × (r ≤ textMost) ⌝ }
 {
     if out.len() < TEXT_MOST {
         return 0;

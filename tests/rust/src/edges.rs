@@ -171,8 +171,5 @@ pub fn all(library: &mut Library) -> Result<(), String> {
     all_steps(library)?;
     all_lines(library)?;
     all_verdicts(library)?;
-    if cfg!(replay) {
-        all_journals(library)?;
-    }
-    Ok(())
+    all_journals(library)
 }

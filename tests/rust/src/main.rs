@@ -105,10 +105,6 @@ fn main() {
         println!("the edges and the sample of document 01: as it says");
     }
     for ((name, run), many) in KINDS.into_iter().zip([wanted.steps, wanted.lines, wanted.journals]) {
-        if name == "journals" && !cfg!(replay) {
-            println!("journals NOT compared: this library has no replay");
-            continue;
-        }
         let (began, mut done, mut seed) = (Instant::now(), 0, wanted.first);
         while done < many {
             let did = guarded(name, seed, || run(&mut library, seed, &mut reached)).unwrap_or_else(|told| fail(name, &told));

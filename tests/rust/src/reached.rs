@@ -131,6 +131,6 @@ impl Reached {
         for (what, many) in &self.0 {
             println!("  {many:>12}  {what}");
         }
-        MUST.into_iter().filter(|what| !self.0.contains_key(*what) && (cfg!(replay) || !what.starts_with("replay"))).collect()
+        MUST.into_iter().filter(|what| !self.0.contains_key(*what)).collect()
     }
 }

@@ -11,13 +11,13 @@ returns : tie.Need-returns
 returns c =
     let w = replay-none (now (c .before .before .before .before .args .s)) (now (c .before .before .before .before .args .t)) (now (c .before .before .before .before .args .out)) (c .if1 .taken) in
     let x = no-text (now (c .before .before .before .before .args .out)) (w .0) in
-    (x .0, x .1, w .1, omega arith)
+    (x .0, x .1, w .1, omega arith, omega arith)
 
 returns-2 : tie.Need-returns-2
 returns-2 c =
     let w = replay-short (now (c .before .before .before .before .before .args .s)) (now (c .before .before .before .before .before .args .t)) (now (c .before .before .before .before .before .args .out)) (c .before .if1 .left) (c .if2 .taken) in
     let x = no-text (now (c .before .before .before .before .before .args .out)) (w .0) in
-    (x .0, x .1, w .1, omega arith)
+    (x .0, x .1, w .1, omega arith, omega arith)
 
 show-requires : tie.Need-show-requires
 show-requires c κs = search needs
@@ -33,7 +33,7 @@ returns-3 c =
     let w = replay-long (now (c .before .before .before .before .before .before .before .before .before .before .before .args .s)) (now (c .before .before .before .before .before .before .before .before .before .before .before .args .t)) (now (c .before .before .before .before .before .before .before .before .before .before .before .args .out)) (c .before .before .before .before .before .before .before .if1 .left) (c .before .before .before .before .before .before .if2 .left) (c .before .before .before .before .before .if3 .taken) in
     let d = c .before .before .show in
     let x = as-text (now (c .before .before .before .before .before .before .before .before .before .before .before .args .out)) (w .0) (d .ensures .0) (d .ensures .1) in
-    (x .0, x .1, w .1, d .ensures .2)
+    (x .0, x .1, w .1, d .ensures .2, d .ensures .3)
 
 told-requires : tie.Need-told-requires
 told-requires c κs = search needs
@@ -49,7 +49,7 @@ returns-4 c =
     let w = replay-right (now (c .before .before .before .before .before .before .before .before .before .before .before .before .before .args .s)) (now (c .before .before .before .before .before .before .before .before .before .before .before .before .before .args .t)) (now (c .before .before .before .before .before .before .before .before .before .before .before .before .before .args .out)) (c .before .before .before .before .before .before .before .before .before .if1 .left) (c .before .before .before .before .before .before .before .before .if2 .left) (c .before .before .before .before .before .before .before .if3 .left) in
     let d = c .before .before .before .before .told in
     let x = as-text (now (c .before .before .before .before .before .before .before .before .before .before .before .before .before .args .out)) (w .0) (d .ensures .0) (d .ensures .1) in
-    (x .0, x .1, d .ensures .2 ∙ w .1, d .ensures .3)
+    (x .0, x .1, d .ensures .2 ∙ w .1, d .ensures .3, d .ensures .4)
 
 pub replay-spec : {M : Type 1} → statement M
 replay-spec =

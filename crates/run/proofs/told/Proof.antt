@@ -25,7 +25,7 @@ returns c =
     let d = c .before .before .show in
     let w = told-text (now (s .args .out)) (now (s .args .t)) (now (s .args .s)) (r .result) (r .last .1 .0) (s .pre .0) (s .pre .1) (r .ensures .0) (r .ensures .1) (r .kept .1 .0 ∙ s .pre .0) in
     let x = as-text (now (c .before .before .before .before .before .before .before .before .before .before .before .before .args .out)) (w .0) (d .ensures .0) (d .ensures .1) in
-    (x .0, x .1, w .1, d .ensures .2)
+    (x .0, x .1, w .1, d .ensures .2, d .ensures .3)
 
 pub told-spec : {M : Type 1} → statement M
 told-spec = tie.close (tie.spec run-requires show-requires same-length same-length-2 returns)

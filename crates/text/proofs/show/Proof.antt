@@ -9,7 +9,7 @@ use Rattle.text.proofs.show.Tie as tie
 returns : tie.Need-returns
 returns c =
     let s = c .before .before .before in
-    whole {most = 0} (omega arith) (wrote-as (text-short (now (s .args .out)) (s .args .outcome) (now (s .args .t)) (c .if1 .taken)) (omega arith) (wrote-none (now (s .args .out)) 0 0))
+    whole {most = 0} (omega arith) (omega arith) (wrote-as (text-short (now (s .args .out)) (s .args .outcome) (now (s .args .t)) (c .if1 .taken)) (omega arith) (wrote-none (now (s .args .out)) 0 0))
 
 enum-known-outcome : tie.Need-enum-known-outcome
 enum-known-outcome c = search needs
@@ -30,7 +30,7 @@ returns-2 : tie.Need-returns-2
 returns-2 c =
     let s = c .before .before .before .before .before .before .before .before .before .before in
     let e = c .before .before .before .before .before .outcome .given .1 in
-    rw e (whole {most = 12288} (c .before .before .before .before .before .before .before .if1 .left) (wrote-as (text-bad (now (s .args .out)) _ _ (now (s .args .t)) (c .before .before .before .before .before .before .before .if1 .left)) (omega arith) (c .before .before .bad-line .ensures)))
+    rw e (whole {most = 12288} (c .before .before .before .before .before .before .before .if1 .left) (omega arith) (wrote-as (text-bad (now (s .args .out)) _ _ (now (s .args .t)) (c .before .before .before .before .before .before .before .if1 .left)) (omega arith) (c .before .before .bad-line .ensures)))
 
 same-length-2 : tie.Need-same-length-2
 same-length-2 c = search needs
@@ -39,7 +39,7 @@ returns-3 : tie.Need-returns-3
 returns-3 c =
     let s = c .before .before .before .before .before .before .before .before .before .before in
     let e = c .before .before .before .before .before .outcome2 .given .1 in
-    rw e (whole (c .before .before .before .before .before .before .before .if1 .left) (c .before .before .done-text .ensures))
+    rw e (whole (c .before .before .before .before .before .before .before .if1 .left) (omega arith) (c .before .before .done-text .ensures))
 
 pub show-spec : {M : Type 1} → statement M
 show-spec =

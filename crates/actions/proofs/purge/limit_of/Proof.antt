@@ -21,12 +21,8 @@ lent t p at n e f =
     let k : (at + n) - at ≡ count t = omega arith in
     ap₂ (λ (m a : ℕ). take m (drop a t)) k e
 
-some : (t : List ℕ) (p at n : ℕ) → Sound t → p < count t → at ≡ acksAt p → n ≡ count t → 0 < length (take ((at + n) - at) (drop at t))
-some t p at n s h e f =
-    let l = s .long in
-    let a = s .low in
-    let b = s .high in
-    simp (length-take, length-drop) (omega arith)
+some : (t : List ℕ) (at n : ℕ) → 0 < n → at + n ≤ length t → 0 < length (take ((at + n) - at) (drop at t))
+some t at n h e = simp (length-take, length-drop) (omega arith)
 
 acks-at-requires : tie.Need-acks-at-requires
 acks-at-requires c κs = search needs
@@ -47,7 +43,15 @@ part-least-of-end : tie.Need-part-least-of-end
 part-least-of-end c = search needs
 
 least-of-requires : tie.Need-least-of-requires
-least-of-requires c κs = some (c .before .before .before .args .t .now) (c .before .before .before .args .p) (c .before .acks-at .result) (c .before .before .before .args .n) (c .before .before .before .pre .0) (c .before .before .before .pre .1) (c .before .acks-at .ensures) (c .before .before .before .pre .2)
+least-of-requires c κs =
+    let s : Sound (c .before .before .before .args .t .now) = c .before .before .before .pre .0 in
+    let l = s .long in
+    let a = s .low in
+    let b = s .high in
+    let f = c .before .before .before .pre .2 in
+    let h = c .before .before .before .pre .1 in
+    let e = c .before .acks-at .ensures in
+    some (c .before .before .before .args .t .now) (c .before .acks-at .result) _ (omega arith) (omega arith)
 
 returns : tie.Need-returns
 returns c = c .least-of .ensures ∙ ap least (lent (c .before .before .before .before .args .t .now) (c .before .before .before .before .args .p) (c .before .before .acks-at .result) (c .before .before .before .before .args .n) (c .before .before .acks-at .ensures) (c .before .before .before .before .pre .2))

@@ -1,4 +1,5 @@
 -- `pollencart_held` meets its contract: the held number.
+use native.Mathlib.Omega.{arith}
 use Rattle.pollencart.proofs.EntryLaws.{absent, there, is-sound, below, no-held, held-is}
 use borrow.Author.Needs.{needs}
 use Rattle.pollencart.proofs.entries.pollencart_held.Statement.{statement}
@@ -13,7 +14,7 @@ returns c = no-held _ _ (absent _ _ (c .before .is-present .result) (c .before .
 held-of-requires : tie.Need-held-of-requires
 held-of-requires c κs =
     let h = there _ _ (c .before .is-present .result) (c .before .is-present .ensures) (c .if1 .left) in
-    (is-sound _ _ h .long, below _ _ h)
+    (is-sound _ _ h .long, omega (arith, below _ _ h))
 
 returns-2 : tie.Need-returns-2
 returns-2 c = held-is _ _ _ (there _ _ (c .before .before .is-present .result) (c .before .before .is-present .ensures) (c .before .if1 .left)) (c .held-of .ensures)

@@ -1,5 +1,7 @@
 -- `pollencart_record` meets its contract: the word where the record stands, 0 beyond the log and beyond the record.
-use Rattle.pollencart.proofs.EntryLaws.{absent, there, is-sound, below, no-record, record-beyond, word-beyond, word-fits, record-is}
+use Prim.Native.Nat.{_<_, _≤_}
+use native.Mathlib.Omega.{arith}
+use Rattle.pollencart.proofs.EntryLaws.{absent, there, is-sound, is-node, below, no-record, record-beyond, word-beyond, record-is}
 use borrow.Author.Needs.{needs}
 use Rattle.pollencart.proofs.entries.pollencart_record.Statement.{statement}
 use Rattle.pollencart.proofs.entries.pollencart_record.Tie as tie
@@ -13,13 +15,13 @@ returns c = no-record _ _ _ _ (absent _ _ (c .before .is-present .result) (c .be
 held-of-requires : tie.Need-held-of-requires
 held-of-requires c κs =
     let h = there _ _ (c .before .is-present .result) (c .before .is-present .ensures) (c .if1 .left) in
-    (is-sound _ _ h .long, below _ _ h)
+    (is-sound _ _ h .long, omega (arith, below _ _ h))
 
 returns-2 : tie.Need-returns-2
-returns-2 c = record-beyond _ _ _ _ _ (there _ _ (c .before .before .before .is-present .result) (c .before .before .before .is-present .ensures) (c .before .before .if1 .left)) (c .before .held-of .ensures) (c .if2 .taken)
+returns-2 c = record-beyond _ _ _ _ _ (there _ _ (c .before .before .before .is-present .result) (c .before .before .before .is-present .ensures) (c .before .before .if1 .left)) (c .before .held-of .ensures) (omega (arith, c .if2 .taken))
 
 returns-3 : tie.Need-returns-3
-returns-3 c = word-beyond _ _ _ _ (there _ _ (c .before .before .before .before .is-present .result) (c .before .before .before .before .is-present .ensures) (c .before .before .before .if1 .left)) (c .if3 .taken)
+returns-3 c = word-beyond _ _ _ _ (there _ _ (c .before .before .before .before .is-present .result) (c .before .before .before .before .is-present .ensures) (c .before .before .before .if1 .left)) (omega (arith, c .if3 .taken))
 
 log-at-requires : tie.Need-log-at-requires
 log-at-requires c κs = below _ _ (there _ _ (c .before .before .before .before .is-present .result) (c .before .before .before .before .is-present .ensures) (c .before .before .before .if1 .left))
@@ -37,10 +39,17 @@ mul-result-2 : tie.Need-mul-result-2
 mul-result-2 c = search needs
 
 shared-slice-read-result : tie.Need-shared-slice-read-result
-shared-slice-read-result c = word-fits _ _ _ _ _ _ (there _ _ (c .before .before .before .before .before .before .is-present .result) (c .before .before .before .before .before .before .is-present .ensures) (c .before .before .before .before .before .if1 .left)) (c .before .before .before .before .held-of .ensures) (c .before .before .before .if2 .left) (c .before .before .if3 .left) (c .before .log-at .ensures)
+shared-slice-read-result c =
+    let h = there _ _ (c .before .before .before .before .before .before .is-present .result) (c .before .before .before .before .before .before .is-present .ensures) (c .before .before .before .before .before .if1 .left) in
+    let t = is-sound _ _ h in
+    omega (arith, t .long, t .room _ (is-node _ _ h), below _ _ h, c .before .before .before .before .held-of .ensures, c .before .before .before .if2 .left, c .before .before .if3 .left, c .before .log-at .ensures)
 
 returns-4 : tie.Need-returns-4
-returns-4 c = record-is _ _ _ _ _ _ (there _ _ (c .before .before .before .before .before .before .is-present .result) (c .before .before .before .before .before .before .is-present .ensures) (c .before .before .before .before .before .if1 .left)) (c .before .before .before .before .held-of .ensures) (c .before .before .before .if2 .left) (c .before .before .if3 .left) (c .before .log-at .ensures)
+returns-4 c =
+    let h = there _ _ (c .before .before .before .before .before .before .is-present .result) (c .before .before .before .before .before .before .is-present .ensures) (c .before .before .before .before .before .if1 .left) in
+    let held : c .before .before .before .before .before .before .before .before .args .index < c .before .before .before .before .held-of .result = omega (arith, c .before .before .before .if2 .left) in
+    let word : c .before .before .before .before .before .before .before .before .args .word ≤ 3 = omega (arith, c .before .before .if3 .left) in
+    record-is _ _ _ _ _ _ h (c .before .before .before .before .held-of .ensures) held word (c .before .log-at .ensures)
 
 pub pollencart-record-spec : {M : Type 1} → statement M
 pollencart-record-spec =

@@ -1,0 +1,29 @@
+-- Two replies that a public contract of this crate allows are equal: what is answered, and every lent byte at exit.
+use mathlib.Core.Path.{_≡_, sym, ap₂, _∙_}
+use mathlib.Core.List.{List}
+use Prim.Native.Nat.{ℕ}
+use denote.Ref.{now}
+use Rattle.meaning.specs.declared.Framed.{Framed}
+use Rattle.meaning.proofs.OneReply.{OneResult, OneReply}
+use Rattle.frames.proofs.read_line.Kinds as read-line-kinds
+use Rattle.frames.proofs.read_line.Reads as read-line
+use Rattle.frames.proofs.write_step.Kinds as write-step-kinds
+use Rattle.frames.proofs.write_step.Reads as write-step
+use Rattle.frames.proofs.write_start.Kinds as write-start-kinds
+use Rattle.frames.proofs.write_start.Reads as write-start
+
+-- an answer and the bytes at exit
+abbrev Written : Type 0
+Written = Framed × List ℕ
+
+same : {x y f : Framed} {u v w : List ℕ} → (x ≡ f) × (u ≡ w) → (y ≡ f) × (v ≡ w) → _≡_ {A = Written} (x, u) (y, v)
+same p q = ap₂ (λ (x : Framed) (u : List ℕ). (x, u)) (p .0 ∙ sym (q .0)) (p .1 ∙ sym (q .1))
+
+pub one-line : OneResult 1 read-line-kinds.ps read-line-kinds.r read-line.Post
+one-line κs a x y s s' p q = p ∙ sym q
+
+pub one-step-frame : OneReply 1 write-step-kinds.ps write-step-kinds.r write-step.Post {R = Written} (λ κs x s. (x, now (s .0)))
+one-step-frame κs a x y s s' p q = same p q
+
+pub one-start-frame : OneReply 1 write-start-kinds.ps write-start-kinds.r write-start.Post {R = Written} (λ κs x s. (x, now (s .0)))
+one-start-frame κs a x y s s' p q = same p q

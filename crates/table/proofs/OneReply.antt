@@ -1,0 +1,29 @@
+-- Two replies that a public contract of this crate allows are equal: what is answered, and every word of the table at exit.
+use mathlib.Core.Path.{_≡_, sym, ap₂, _∙_}
+use mathlib.Core.List.{List, _∷_}
+use Prim.Native.Nat.{ℕ}
+use denote.Ref.{now}
+use Rattle.meaning.specs.declared.Reply.{Reply}
+use Rattle.meaning.proofs.OneReply.{OneReply}
+use Rattle.table.proofs.fresh.Kinds as fresh-kinds
+use Rattle.table.proofs.fresh.Reads as fresh
+use Rattle.table.proofs.apply.Kinds as apply-kinds
+use Rattle.table.proofs.apply.Reads as apply
+use Rattle.table.proofs.apply_sound.Kinds as apply-sound-kinds
+use Rattle.table.proofs.apply_sound.Reads as apply-sound
+
+-- a reply and the words at exit
+abbrev Applied : Type 0
+Applied = Reply × List ℕ
+
+same : {x y r : Reply} {u v w : List ℕ} → (x ≡ r) × (u ≡ w) → (y ≡ r) × (v ≡ w) → _≡_ {A = Applied} (x, u) (y, v)
+same p q = ap₂ (λ (x : Reply) (u : List ℕ). (x, u)) (p .0 ∙ sym (q .0)) (p .1 ∙ sym (q .1))
+
+pub one-fresh : OneReply 1 fresh-kinds.ps fresh-kinds.r fresh.Post (λ κs x s. x ∷ now (s .0))
+one-fresh κs a x y s s' p q = ap₂ _∷_ (p .0 ∙ sym (q .0)) (p .1 ∙ sym (q .1))
+
+pub one-step : OneReply 1 apply-kinds.ps apply-kinds.r apply.Post {R = Applied} (λ κs x s. (x, now (s .0)))
+one-step κs a x y s s' p q = same p q
+
+pub one-sound-step : OneReply 1 apply-sound-kinds.ps apply-sound-kinds.r apply-sound.Post {R = Applied} (λ κs x s. (x, now (s .0)))
+one-sound-step κs a x y s s' p q = same p q
