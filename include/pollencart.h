@@ -111,6 +111,21 @@ uint32_t pollencart_record(const uint32_t *table, size_t table_len, uint8_t node
 uint32_t pollencart_count(const uint32_t *words, size_t words_len, uint32_t *scrubbed, uint32_t *touched);
 uint32_t pollencart_count_node(const uint32_t *table, size_t table_len, uint8_t node, uint32_t *scrubbed, uint32_t *touched);
 
+/* The replay: reads a journal, runs its steps on a fresh table and puts the text that the program `replay` prints at the beginning
+ * of out. Answers the number of bytes written, 0 to POLLENCART_TEXT; no zero byte ends them, and no byte after them is changed.
+ *
+ * Answers 0 and changes nothing if table_len is not 4625 (the words of a table) or out_len is below POLLENCART_TEXT, enough for every
+ * text. Otherwise there is a text, never empty, and it does not depend on what the table held:
+ *   - the journal came to its end: N, STEPS and REFUSED, then a line a node. A refused step is counted and passed over.
+ *     The table is a fresh one after all steps, sound.
+ *   - a line was refused: `BAD line number` with 11 to 15 as above, or 14 for bytes that no LF ends; an empty journal gives BAD 1 15.
+ *     Was it the first line, no word of the table is changed, sound or not. Was it a later one, the table is a fresh one
+ *     after the steps before that line, sound.
+ *   - journal_len is above POLLENCART_JOURNAL: `BAD 0 16`. Its bytes play no part, no word of the table is changed. */
+#define POLLENCART_TEXT 12288    /* the bytes that out must have at least */
+#define POLLENCART_JOURNAL 65536 /* the bytes that a journal may have at most */
+uint32_t pollencart_replay(const uint8_t *journal, size_t journal_len, uint32_t *table, size_t table_len, uint8_t *out, size_t out_len);
+
 #ifdef __cplusplus
 }
 #endif

@@ -1,0 +1,383 @@
+//! The benchmark: the proved library, a plain C version written for speed (under two compilers) and
+//! the independent Rust implementation, on the same inputs, in one run, by turns. It prints a table
+//! of medians, the ratio to the better of the others, and the spread.
+
+#[path = "../tests/rust/src/model.rs"]
+mod model;
+
+use model::{Action, Table, WORDS};
+use std::hint::black_box;
+use std::time::Instant;
+
+type Check = unsafe extern "C" fn(*const u8, usize) -> u32;
+type Field = unsafe extern "C" fn(*const u8, usize, u32) -> u32;
+type FrameWrite = unsafe extern "C" fn(*mut u8, usize, u8, u32, u32, u8, *mut u32) -> u32;
+type FrameSession = unsafe extern "C" fn(*mut u8, usize, u8, u8, u32, u32, u8, *mut u32) -> u32;
+type FrameShort = unsafe extern "C" fn(*mut u8, usize, u8, *mut u32) -> u32;
+type Write = unsafe extern "C" fn(*mut u32, usize, u8, u32, u32, u8) -> u32;
+type Session = unsafe extern "C" fn(*mut u32, usize, u8, u8, u32, u32, u8, *mut u32, *mut u32) -> u32;
+type Purge = unsafe extern "C" fn(*mut u32, usize, u8, *mut u32) -> u32;
+type Count = unsafe extern "C" fn(*const u32, usize, *mut u32, *mut u32) -> u32;
+type Replay = unsafe extern "C" fn(*const u8, usize, *mut u32, usize, *mut u8, usize) -> u32;
+
+/// The calls of one C library.
+#[derive(Clone, Copy)]
+struct Api {
+    check: Check,
+    kind: Check,
+    field: Field,
+    frame_start: FrameShort,
+    frame_write: FrameWrite,
+    frame_session: FrameSession,
+    frame_purge: FrameShort,
+    write: Write,
+    session: Session,
+    purge: Purge,
+    count: Count,
+    replay: Replay,
+}
+
+macro_rules! api {
+    ($check:ident $kind:ident $field:ident $frame_start:ident $frame_write:ident $frame_session:ident $frame_purge:ident $write:ident $session:ident $purge:ident $count:ident $replay:ident) => {{
+        extern "C" {
+            fn $check(l: *const u8, n: usize) -> u32;
+            fn $kind(l: *const u8, n: usize) -> u32;
+            fn $field(l: *const u8, n: usize, i: u32) -> u32;
+            fn $frame_start(o: *mut u8, n: usize, p: u8, r: *mut u32) -> u32;
+            fn $frame_write(o: *mut u8, n: usize, p: u8, t: u32, b: u32, v: u8, r: *mut u32) -> u32;
+            fn $frame_session(o: *mut u8, n: usize, a: u8, b: u8, x: u32, y: u32, c: u8, r: *mut u32) -> u32;
+            fn $frame_purge(o: *mut u8, n: usize, p: u8, r: *mut u32) -> u32;
+            fn $write(w: *mut u32, n: usize, p: u8, t: u32, b: u32, v: u8) -> u32;
+            fn $session(w: *mut u32, n: usize, a: u8, b: u8, x: u32, y: u32, c: u8, r: *mut u32, s: *mut u32) -> u32;
+            fn $purge(w: *mut u32, n: usize, p: u8, r: *mut u32) -> u32;
+            fn $count(w: *const u32, n: usize, s: *mut u32, t: *mut u32) -> u32;
+            fn $replay(j: *const u8, n: usize, w: *mut u32, m: usize, o: *mut u8, r: usize) -> u32;
+        }
+        Api {
+            check: $check,
+            kind: $kind,
+            field: $field,
+            frame_start: $frame_start,
+            frame_write: $frame_write,
+            frame_session: $frame_session,
+            frame_purge: $frame_purge,
+            write: $write,
+            session: $session,
+            purge: $purge,
+            count: $count,
+            replay: $replay,
+        }
+    }};
+}
+
+fn apis() -> [Api; 3] {
+    [
+        api!(pollencart_check pollencart_kind pollencart_field pollencart_frame_start pollencart_frame_write pollencart_frame_session pollencart_frame_purge pollencart_write pollencart_session pollencart_purge pollencart_count pollencart_replay),
+        api!(plain_check plain_kind plain_field plain_frame_start plain_frame_write plain_frame_session plain_frame_purge plain_write plain_session plain_purge plain_count plain_replay),
+        api!(clang_check clang_kind clang_field clang_frame_start clang_frame_write clang_frame_session clang_frame_purge clang_write clang_session clang_purge clang_count clang_replay),
+    ]
+}
+
+const COLUMNS: [&str; 4] = ["library", "C, gcc", "C, clang", "Rust"];
+const ROUNDS: usize = 61;
+
+/// One row: its name and, for each column, a sample: nanoseconds for one operation.
+struct Row {
+    name: String,
+    samples: Vec<Box<dyn FnMut() -> f64>>,
+}
+
+/// Times `many` operations, after `before` has made ready for them.
+fn sample(many: usize, mut before: impl FnMut() + 'static, mut operation: impl FnMut(usize) + 'static) -> Box<dyn FnMut() -> f64> {
+    Box::new(move || {
+        before();
+        let began = Instant::now();
+        for i in 0..many {
+            operation(i);
+        }
+        began.elapsed().as_nanos() as f64 / many as f64
+    })
+}
+
+/// A row on a fixed input: one closure for the C libraries, one for Rust.
+fn row<C, R>(name: &str, many: usize, c: impl Fn(Api) -> C, rust: R) -> Row
+where
+    C: FnMut(usize) + 'static,
+    R: FnMut(usize) + 'static,
+{
+    let mut samples: Vec<Box<dyn FnMut() -> f64>> = apis().into_iter().map(|api| sample(many, || (), c(api))).collect();
+    samples.push(sample(many, || (), rust));
+    Row { name: name.into(), samples }
+}
+
+/// Has the compiler think that a result is used.
+fn seen<T>(result: T) {
+    let _ = black_box(result);
+}
+
+fn lines(rows: &mut Vec<Row>) {
+    let frames = [
+        ("start", model::start_frame(16)),
+        ("write", model::frame(Action::Write { node: 3, timestamp: 0x5F37_59DF, block: 0xDEAD_BEEF, verdict: 0x2A }).unwrap()),
+        ("session", model::frame(Action::Session { a: 3, b: 11, ca: 0x5F37_59DF, cb: 0x0BAD_CAFE, outcome: 3 }).unwrap()),
+        ("purge", model::frame(Action::Purge { node: 9 }).unwrap()),
+    ];
+    for (name, mut line) in frames {
+        line.pop();
+        let given = line.clone();
+        let check = |api: Api| {
+            let line = line.clone();
+            move |_: usize| seen(unsafe { (api.check)(black_box(line.as_ptr()), line.len()) })
+        };
+        let rust = given.clone();
+        rows.push(row(&format!("check a line: {name}"), 4000, check, move |_| seen(model::read(black_box(&rust)))));
+        let many = model::fields(model::read(&given).unwrap()).1.len() as u32;
+        let whole = |api: Api| {
+            let line = line.clone();
+            move |_: usize| {
+                let (at, size) = (black_box(line.as_ptr()), line.len());
+                unsafe {
+                    black_box((api.check)(at, size));
+                    black_box((api.kind)(at, size));
+                    for i in 0..many {
+                        black_box((api.field)(at, size, i));
+                    }
+                }
+            }
+        };
+        let rust = given.clone();
+        rows.push(row(&format!("check, kind and all fields: {name}"), 1000, whole, move |_| seen(model::read(black_box(&rust)).map(model::fields))));
+    }
+}
+
+fn frames(rows: &mut Vec<Row>) {
+    let many = 4000;
+    let start = |api: Api| {
+        move |i: usize| unsafe {
+            let (mut out, mut length) = ([0u8; 32], 0);
+            (api.frame_start)(out.as_mut_ptr(), 32, black_box(2 + (i as u8 & 7)), &mut length);
+            black_box((out, length));
+        }
+    };
+    rows.push(row("write a frame: start", many, start, |i| seen(model::start_frame(black_box(2 + (i as u8 & 7))))));
+    let write = |api: Api| {
+        move |i: usize| unsafe {
+            let (mut out, mut length) = ([0u8; 32], 0);
+            (api.frame_write)(out.as_mut_ptr(), 32, 3, black_box(i as u32), black_box(0xDEAD_BEEF), 0x2A, &mut length);
+            black_box((out, length));
+        }
+    };
+    rows.push(row("write a frame: write", many, write, |i| seen(model::frame(black_box(Action::Write { node: 3, timestamp: i as u32, block: 0xDEAD_BEEF, verdict: 0x2A })))));
+    let session = |api: Api| {
+        move |i: usize| unsafe {
+            let (mut out, mut length) = ([0u8; 32], 0);
+            (api.frame_session)(out.as_mut_ptr(), 32, 3, 11, black_box(i as u32), black_box(0x0BAD_CAFE), 3, &mut length);
+            black_box((out, length));
+        }
+    };
+    rows.push(row("write a frame: session", many, session, |i| seen(model::frame(black_box(Action::Session { a: 3, b: 11, ca: i as u32, cb: 0x0BAD_CAFE, outcome: 3 })))));
+    let purge = |api: Api| {
+        move |i: usize| unsafe {
+            let (mut out, mut length) = ([0u8; 32], 0);
+            (api.frame_purge)(out.as_mut_ptr(), 32, black_box(i as u8), &mut length);
+            black_box((out, length));
+        }
+    };
+    rows.push(row("write a frame: purge", many, purge, |i| seen(model::frame(black_box(Action::Purge { node: i as u8 })))));
+}
+
+/// A cluster of n nodes, each with `held` records of its own at timestamps 1 and up.
+fn cluster(n: u32, held: u32) -> Table {
+    let mut table = model::fresh(WORDS, n).unwrap();
+    for p in 0..n {
+        for timestamp in 1..=held {
+            assert_eq!(table.apply(Action::Write { node: p as u8, timestamp, block: timestamp, verdict: (timestamp % 96) as u8 }).refusal, 0);
+        }
+    }
+    table
+}
+
+fn call(api: Api, table: &mut [u32], action: Action) -> u32 {
+    let (at, size, mut x, mut y) = (table.as_mut_ptr(), table.len(), 0, 0);
+    let answer = unsafe {
+        match action {
+            Action::Write { node, timestamp, block, verdict } => (api.write)(at, size, node, timestamp, block, verdict),
+            Action::Session { a, b, ca, cb, outcome } => (api.session)(at, size, a, b, ca, cb, outcome, &mut x, &mut y),
+            Action::Purge { node } => (api.purge)(at, size, node, &mut x),
+        }
+    };
+    black_box((x, y));
+    answer
+}
+
+/// A step on a caller's table, on copies of it that are made anew, outside the time, for each sample.
+fn step(rows: &mut Vec<Row>, name: &str, table: &Table, action: Action) {
+    const COPIES: usize = 24;
+    let mut words = Vec::new();
+    table.to_words(&mut words);
+    let mut samples: Vec<Box<dyn FnMut() -> f64>> = Vec::new();
+    for api in apis() {
+        let (words, mut copies) = (words.clone(), vec![words.clone(); COPIES]);
+        samples.push(Box::new(move || {
+            copies.iter_mut().for_each(|copy| copy.copy_from_slice(&words));
+            let began = Instant::now();
+            for copy in &mut copies {
+                assert_eq!(call(api, copy, black_box(action)), 0);
+            }
+            began.elapsed().as_nanos() as f64 / COPIES as f64
+        }));
+    }
+    let mut copies = vec![words.clone(); COPIES];
+    samples.push(Box::new(move || {
+        copies.iter_mut().for_each(|copy| copy.copy_from_slice(&words));
+        let began = Instant::now();
+        for copy in &mut copies {
+            let mut table = Table::from_words(copy).unwrap();
+            assert_eq!(table.apply(black_box(action)).refusal, 0);
+            table.to_words(copy);
+        }
+        began.elapsed().as_nanos() as f64 / COPIES as f64
+    }));
+    rows.push(Row { name: name.into(), samples });
+}
+
+fn steps(rows: &mut Vec<Row>) {
+    let session = |ca, cb| Action::Session { a: 0, b: 1, ca, cb, outcome: 3 };
+    for (n, held, which) in [(2, 4, "2 nodes, 4 held"), (16, 32, "16 nodes, 32 held")] {
+        let table = cluster(n, held);
+        step(rows, &format!("write ({which})"), &table, Action::Write { node: 1, timestamp: 99, block: 1, verdict: 0x20 });
+        let mut met = table.clone();
+        for p in 0..n as usize {
+            met.summaries[p][..n as usize].fill(held);
+        }
+        step(rows, &format!("session, none carried ({which})"), &met, session(99, 99));
+        let mut some = met.clone();
+        (some.summaries[0][1], some.summaries[1][0]) = (held - 2, held - 2);
+        step(rows, &format!("session, 2 to each ({which})"), &some, session(99, 99));
+        let mut purged = met.clone();
+        purged.acknowledgements[0][..n as usize].fill(held / 2);
+        step(rows, &format!("purge of half ({which})"), &purged, Action::Purge { node: 0 });
+        step(rows, &format!("purge of none ({which})"), &met, Action::Purge { node: 0 });
+    }
+    step(rows, "session, 32 to each (16 nodes, 32 held)", &cluster(16, 32), session(99, 99));
+}
+
+/// A journal of a start and these steps, with its replay's text checked against the model once.
+fn journal(rows: &mut Vec<Row>, name: &str, n: u8, actions: &[Action], per: usize) {
+    let mut text = model::start_frame(n);
+    actions.iter().for_each(|action| text.extend(model::frame(*action).unwrap()));
+    assert!(text.len() <= model::JOURNAL);
+    let printed = model::replay(&text).0;
+    let mut samples: Vec<Box<dyn FnMut() -> f64>> = Vec::new();
+    for api in apis() {
+        let (text, printed) = (text.clone(), printed.clone());
+        let (mut table, mut out) = (vec![0u32; WORDS], vec![0u8; 12288]);
+        samples.push(Box::new(move || {
+            let began = Instant::now();
+            let length = unsafe { (api.replay)(black_box(text.as_ptr()), text.len(), table.as_mut_ptr(), WORDS, out.as_mut_ptr(), out.len()) };
+            let took = began.elapsed().as_nanos() as f64 / per as f64;
+            assert_eq!(&out[..length as usize], printed.as_bytes());
+            took
+        }));
+    }
+    samples.push(Box::new(move || {
+        let began = Instant::now();
+        let said = model::replay(black_box(&text)).0;
+        let took = began.elapsed().as_nanos() as f64 / per as f64;
+        assert_eq!(said, printed);
+        took
+    }));
+    rows.push(Row { name: name.into(), samples });
+}
+
+fn journals(rows: &mut Vec<Row>) {
+    let many = 2400u32;
+    let writes: Vec<Action> = (0..many).map(|i| Action::Write { node: (i % 16) as u8, timestamp: i + 1, block: i, verdict: 0x20 }).take(1000).collect();
+    journal(rows, "a journal's line and step: write", 16, &writes, writes.len());
+    let none: Vec<Action> = (0..many).map(|i| Action::Session { a: (i % 16) as u8, b: ((i + 1) % 16) as u8, ca: i, cb: i, outcome: 3 }).collect();
+    journal(rows, "a journal's line and step: session, none carried", 16, &none, none.len());
+    let purges: Vec<Action> = (0..many).map(|i| Action::Purge { node: (i % 16) as u8 }).collect();
+    journal(rows, "a journal's line and step: purge of none", 16, &purges, purges.len());
+    let mut mixed = Vec::new();
+    for i in 0..many {
+        let (p, t) = ((i % 7) as u8, i + 1);
+        mixed.push(match i % 8 {
+            0..=2 => Action::Write { node: p, timestamp: t, block: i, verdict: (i % 96) as u8 },
+            3..=6 => Action::Session { a: p, b: (p + 1 + (i / 8 % 6) as u8) % 7, ca: t, cb: t, outcome: if i % 24 == 3 { 1 } else { 3 } },
+            _ => Action::Purge { node: (i / 8 % 7) as u8 },
+        });
+    }
+    let refused: usize = model::replay(&mixed.iter().fold(model::start_frame(7), |text, action| [text, model::frame(*action).unwrap()].concat()))
+        .0
+        .lines()
+        .next()
+        .unwrap()
+        .rsplit(' ')
+        .next()
+        .unwrap()
+        .parse()
+        .unwrap();
+    eprintln!("the full journal: {} steps, {refused} refused", mixed.len());
+    journal(rows, "the run of a full journal (7 nodes, 2400 steps)", 7, &mixed, 1);
+}
+
+fn counts(rows: &mut Vec<Row>) {
+    for records in [4usize, 64] {
+        let words: Vec<u32> = (0..4 * records).map(|i| (i as u32 * 37) % 256).collect();
+        let rust = words.clone();
+        let c = |api: Api| {
+            let words = words.clone();
+            move |_: usize| unsafe {
+                let (mut scrubbed, mut touched) = (0, 0);
+                (api.count)(black_box(words.as_ptr()), words.len(), &mut scrubbed, &mut touched);
+                black_box((scrubbed, touched));
+            }
+        };
+        rows.push(row(&format!("the verdict count, {records} records"), 2000, c, move |_| seen(model::count(black_box(&rust)))));
+    }
+}
+
+/// The median and the spread (the distance of the quartiles, as a share of the median).
+fn middle(mut samples: Vec<f64>) -> (f64, f64) {
+    samples.sort_by(f64::total_cmp);
+    let at = |share: usize| samples[samples.len() * share / 4];
+    (at(2), (at(3) - at(1)) / at(2) * 100.0)
+}
+
+fn main() {
+    let mut rows = Vec::new();
+    lines(&mut rows);
+    frames(&mut rows);
+    steps(&mut rows);
+    journals(&mut rows);
+    counts(&mut rows);
+    // words on the command line choose the rows whose name has one of them
+    let chosen: Vec<String> = std::env::args().skip(1).collect();
+    rows.retain(|row| chosen.is_empty() || chosen.iter().any(|word| row.name.contains(word)));
+    println!("| ns for one | {} | ratio | spread |", COLUMNS.join(" | "));
+    println!("|---|{}---:|---:|", "---:|".repeat(COLUMNS.len()));
+    let mut below = Vec::new();
+    for row in &mut rows {
+        let mut samples = vec![Vec::new(); COLUMNS.len()];
+        for sample in &mut row.samples {
+            sample();
+        }
+        for round in 0..ROUNDS {
+            for turn in 0..COLUMNS.len() {
+                let column = (round + turn) % COLUMNS.len();
+                samples[column].push((row.samples[column])());
+            }
+        }
+        let middles: Vec<(f64, f64)> = samples.into_iter().map(middle).collect();
+        let better = middles[1..].iter().map(|m| m.0).fold(f64::INFINITY, f64::min);
+        let ratio = better / middles[0].0;
+        let times: Vec<String> = middles.iter().map(|m| format!("{:.1}", m.0)).collect();
+        let widest = middles.iter().map(|m| m.1).fold(0.0, f64::max);
+        println!("| {} | {} | {ratio:.2} | {widest:.0} % |", row.name, times.join(" | "));
+        if ratio < 1.0 {
+            below.push(format!("{} {ratio:.2}", row.name));
+        }
+    }
+    println!("\nratio: the better of the others to the library; above 1 the library is the faster.");
+    println!("{} of {} rows below 1.0{}", below.len(), rows.len(), if below.is_empty() { String::new() } else { format!(": {}", below.join("; ")) });
+}

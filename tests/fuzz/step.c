@@ -1,0 +1,96 @@
+/* Write, session and purge, the count and the looks, on an arbitrary table: one of any length whose
+ * words come from the data, then steps; the same replies, counts and words as the plain version. */
+#include "fuzz.h"
+
+static struct part table_part;
+static uint32_t plain[8192];
+
+/* The data, read as numbers from its front; zero when it is used up. */
+static const uint8_t *data_at;
+static size_t data_left;
+
+static uint32_t number(size_t bytes)
+{
+    uint32_t x = 0;
+    while (bytes--) {
+        x = x << 8 | (data_left ? *data_at : 0);
+        if (data_left)
+            data_at++, data_left--;
+    }
+    return x;
+}
+
+/* Fills a table: most often the right length, a right count and sound rows, then a few words at will. */
+static size_t fill(void)
+{
+    uint32_t how = number(1), state = number(4) | 1;
+    size_t length = how % 32 == 31 ? number(2) % 8192 : POLLENCART_TABLE;
+    for (size_t i = 0; i < length; i++) {
+        state = state * 1664525u + 1013904223u;
+        plain[i] = how & 32 ? state >> 28 : state;
+    }
+    if (length != POLLENCART_TABLE)
+        return length;
+    uint32_t n = plain[0] = 2 + number(1) % 15;
+    for (uint32_t p = 0; p < n; p++) {
+        uint32_t held = plain[513 + p] = number(1) % 65;
+        for (uint32_t i = 0; i < held; i++) {
+            uint32_t *row = plain + 529 + 256 * p + 4 * i;
+            row[0] %= n, row[3] &= 255;
+        }
+    }
+    for (uint32_t many = number(1) % 8; many; many--) {
+        uint32_t at = number(2) % POLLENCART_TABLE;
+        plain[at] = how & 64 ? number(4) : number(1);
+    }
+    return length;
+}
+
+/* One call on both tables. */
+static void call(uint32_t *table, size_t length)
+{
+    uint32_t op = number(1), w[4] = { 7, 7, 7, 7 };
+    uint8_t p = (uint8_t)number(1), q = (uint8_t)number(1);
+    if (op & 128)
+        p &= 15, q &= 15;
+    uint32_t x = op & 64 ? number(4) : number(1), y = op & 64 ? number(4) : number(1);
+    if (op % 8 < 2) {
+        same(pollencart_write(table, length, p, x, y, q) == plain_write(plain, length, p, x, y, q), "write");
+    } else if (op % 8 < 5) {
+        uint8_t outcome = (uint8_t)(op & 32 ? op % 8 : 3 - number(1) % 4);
+        same(pollencart_session(table, length, p, q, x, y, outcome, w, w + 1) == plain_session(plain, length, p, q, x, y, outcome, w + 2, w + 3), "session");
+        same(w[0] == w[2] && w[1] == w[3], "the carried counts");
+    } else if (op % 8 == 5) {
+        same(pollencart_purge(table, length, p, w) == plain_purge(plain, length, p, w + 1), "purge");
+        same(w[0] == w[1], "the removed count");
+    } else if (op % 8 == 6) {
+        same(pollencart_count_node(table, length, p, w, w + 1) == plain_count_node(plain, length, p, w + 2, w + 3), "count_node");
+        same(w[0] == w[2] && w[1] == w[3], "the counts");
+    } else {
+        same(pollencart_summary(table, length, p, q) == plain_summary(plain, length, p, q), "summary");
+        same(pollencart_acknowledgement(table, length, p, q) == plain_acknowledgement(plain, length, p, q), "acknowledgement");
+        same(pollencart_held(table, length, p) == plain_held(plain, length, p), "held");
+        same(pollencart_record(table, length, p, x, y % 6) == plain_record(plain, length, p, x, y % 6), "record");
+        if (op & 32 && x == 0)
+            same(pollencart_fresh(table, length, y) == plain_fresh(plain, length, y), "fresh");
+    }
+}
+
+int LLVMFuzzerTestOneInput(const uint8_t *data, size_t size)
+{
+    data_at = data, data_left = size;
+    size_t length = fill();
+    uint32_t *table = (uint32_t *)(void *)lend(&table_part, sizeof plain, 4 * length, size % 2);
+    memcpy(table, plain, 4 * length);
+    for (int steps = 0; data_left && steps < 64; steps++) {
+        call(table, length);
+        same(!memcmp(table, plain, 4 * length), "the table's words");
+    }
+    size_t words = length < 300 ? length : number(1) + 10;
+    uint32_t w[4];
+    if (words <= length) {
+        same(pollencart_count(table + length - words, words, w, w + 1) == plain_count(plain + length - words, words, w + 2, w + 3), "count");
+        same(w[0] == w[2] && w[1] == w[3], "the counts of a list");
+    }
+    return 0;
+}

@@ -1,0 +1,175 @@
+//! The section "Both sides of each edge" of document 01 and its sample journal, with the numbers
+//! written out: the library and the model must both say them.
+
+use crate::account::Account;
+use crate::library::{Calls, Library, TEXT};
+use crate::model::{count, fresh, read, replay, Action, Table, WORDS};
+
+fn write(node: u8, timestamp: u32) -> Action {
+    Action::Write { node, timestamp, block: 7, verdict: 0x20 }
+}
+
+fn session(a: u8, b: u8, ca: u32, cb: u32, outcome: u8) -> Action {
+    Action::Session { a, b, ca, cb, outcome }
+}
+
+/// A table of 2 on which node 0 holds `many` records, at timestamps 1 and up.
+fn holding(many: u32) -> Table {
+    let mut table = fresh(WORDS, 2).unwrap();
+    for timestamp in 1..=many {
+        assert_eq!(table.apply(write(0, timestamp)).refusal, 0);
+    }
+    table
+}
+
+/// Steps on a table, each with the refusal and the two counts that it must report.
+fn steps(library: &mut Library, name: &str, mut table: Table, list: &[(Action, [u32; 3])]) -> Result<(), String> {
+    let mut words = Vec::new();
+    table.to_words(&mut words);
+    let mut calls = Calls::default();
+    calls.table(&words);
+    list.iter().for_each(|(action, _)| calls.step(*action));
+    let mut answers = library.run(&calls).ok_or("the library was killed")?;
+    for (action, should) in list {
+        let reply = table.apply(*action);
+        let (is, after) = (answers.words(3), answers.words(WORDS));
+        table.to_words(&mut words);
+        let counts: &[u32] = match action {
+            Action::Write { .. } => &[],
+            Action::Session { .. } => &[reply.to_a, reply.to_b],
+            Action::Purge { .. } => &[reply.removed],
+        };
+        let right = reply.refusal == should[0] && counts == &should[1..=counts.len()] && is[0] == should[0] && is[1..=counts.len()] == *counts && after == words;
+        if !right {
+            return Err(format!("{name}: {action:?} should say {should:?}; the library says {is:?}, the model {reply:?}"));
+        }
+    }
+    Ok(())
+}
+
+fn all_steps(library: &mut Library) -> Result<(), String> {
+    let two = || fresh(WORDS, 2).unwrap();
+    let mut acknowledged = holding(6);
+    acknowledged.acknowledgements[0] = vec![5; 16];
+    steps(library, "write at 0, 1, 1", two(), &[(write(0, 0), [5, 0, 0]), (write(0, 1), [0, 0, 0]), (write(0, 1), [5, 0, 0])])?;
+    steps(library, "0 with 0", two(), &[(session(0, 0, 0, 0, 3), [4, 0, 0]), (write(0, 9), [0, 0, 0]), (session(0, 0, 1, 99, 3), [4, 0, 0])])?;
+    steps(library, "node 2, outcome 4", two(), &[(write(2, 1), [3, 0, 0]), (session(0, 2, 1, 1, 3), [3, 0, 0]), (session(2, 2, 1, 1, 4), [2, 0, 0])])?;
+    steps(library, "equal readings", two(), &[(write(0, 1), [0, 0, 0]), (session(0, 1, 0, 0, 3), [5, 0, 0]), (session(0, 1, 1, 0, 3), [0, 0, 1])])?;
+    steps(library, "outcome 0", holding(2), &[(session(0, 1, 5, 6, 0), [0, 0, 0])])?;
+    steps(library, "smallest acknowledgement 5", acknowledged, &[(Action::Purge { node: 0 }, [0, 5, 0]), (Action::Purge { node: 1 }, [0, 0, 0])])?;
+    steps(library, "64 held", holding(64), &[(write(0, 65), [6, 0, 0]), (write(0, 64), [5, 0, 0]), (session(0, 1, 65, 1, 1), [0, 0, 0])])?;
+    let mut full = holding(63);
+    full.apply(write(1, 1));
+    full.apply(write(1, 2));
+    steps(library, "63 held and 2 coming", full, &[(session(0, 1, 63, 2, 1), [6, 0, 0]), (session(0, 1, 63, 2, 0), [0, 0, 0])])?;
+    let largest = [(write(0, u32::MAX), [0, 0, 0]), (write(0, u32::MAX), [5, 0, 0]), (session(0, 1, u32::MAX, 3, 3), [0, 0, 1]), (session(0, 1, u32::MAX, 3, 3), [0, 0, 0])];
+    steps(library, "the largest timestamp", two(), &largest)
+}
+
+/// Lines with their refusal.
+const LINES: [(&[u8], u32); 9] = [
+    (b"0002FE", 0),
+    (b"0002FF", 13),
+    (b"0002fe", 12),
+    (b"", 11),
+    (b"000", 11),
+    (b"0001FF", 15),
+    (b"0100000000050000001010DA", 0),
+    (b"020001000000060000000403F0", 0),
+    (b"0300FD", 0),
+];
+
+fn all_lines(library: &mut Library) -> Result<(), String> {
+    let mut calls = Calls::default();
+    LINES.iter().for_each(|(line, _)| calls.line(line));
+    let mut answers = library.run(&calls).ok_or("the library was killed")?;
+    for (line, should) in LINES {
+        let is = answers.words(10)[0];
+        if is != should || read(line).err().unwrap_or(0) != should {
+            return Err(format!("line \"{}\" should say {should}, the library says {is}", line.escape_ascii()));
+        }
+    }
+    Ok(())
+}
+
+/// A verdict with its place in the two counts.
+const VERDICTS: [(u32, u32, u32); 6] = [(0x0F, 0, 0), (0x10, 1, 0), (0x1F, 1, 0), (0x20, 1, 1), (0x4F, 1, 1), (0x50, 0, 0)];
+
+fn all_verdicts(library: &mut Library) -> Result<(), String> {
+    for (verdict, scrubbed, touched) in VERDICTS {
+        let list = [0, 1, 2, verdict];
+        let mut calls = Calls::default();
+        calls.count(&list);
+        let mut answers = library.run(&calls).ok_or("the library was killed")?;
+        let is = answers.words(3);
+        if is != [0, scrubbed, touched] || count(&list) != Ok((scrubbed, touched)) {
+            return Err(format!("verdict {verdict:02X}: the library says {is:?}"));
+        }
+    }
+    Ok(())
+}
+
+const SAMPLE: &[u8] = b"0002FE\n0100000000050000001010DA\n020001000000060000000403F0\n020001000000070000000701EE\n0300FD\n020001000000080000000803EA\n0300FD\n";
+const PRINTED: &str = "N 2 STEPS 6 REFUSED 0\n0 S 8 8 K 7 6 L 0\n1 S 8 8 K 7 6 L 1\n";
+
+/// Small journals for the program itself.
+pub const JOURNALS: [&[u8]; 5] = [SAMPLE, b"", b"\n", b"0002FE\n", b"0002FE"];
+
+fn all_journals(library: &mut Library) -> Result<(), String> {
+    let long = vec![b'0'; 65_537];
+    for (journal, printed) in [(SAMPLE, PRINTED), (b"", "BAD 1 15\n"), (b"0002FE\n\n0300FD", "BAD 2 11\n"), (&long, "BAD 0 16\n"), (&long[1..], "BAD 1 14\n")] {
+        let mut calls = Calls::default();
+        calls.replay(journal, WORDS as u32, TEXT);
+        let mut answers = library.run(&calls).ok_or("the library was killed")?;
+        let length = answers.word() as usize;
+        let text = answers.bytes(TEXT as usize);
+        if text.get(..length) != Some(printed.as_bytes()) || replay(journal).0 != printed {
+            return Err(format!("a replay should print {printed}, the library wrote {length} bytes: {}", text[..length.min(200)].escape_ascii()));
+        }
+    }
+    Ok(())
+}
+
+fn all_counts(library: &mut Library) -> Result<(), String> {
+    for (n, length, should) in [(1, WORDS, 1), (2, WORDS, 0), (16, WORDS, 0), (17, WORDS, 1), (2, WORDS - 1, 1), (2, WORDS + 1, 1)] {
+        let mut calls = Calls::default();
+        calls.table(&vec![9; length]);
+        calls.fresh(n);
+        let mut answers = library.run(&calls).ok_or("the library was killed")?;
+        let is = answers.words(3)[0];
+        if is != should || fresh(length, n).map_or(1, |_| 0) != should {
+            return Err(format!("a fresh table of {n} in {length} words: the library says {is}"));
+        }
+    }
+    Ok(())
+}
+
+/// The account of demand 3 must be able to fail: a record that is dropped too early, a summary that
+/// covers what did not arrive, and a log out of order are each told.
+fn account_tells() -> Result<(), String> {
+    let (mut table, mut account) = (fresh(WORDS, 3).unwrap(), Account::fresh(3));
+    for action in [write(0, 1), write(0, 2), session(0, 1, 2, 1, 3), session(0, 1, 3, 2, 3)] {
+        assert_eq!(table.apply(action).refusal, 0);
+        account.accepted(action);
+    }
+    let (mut dropped, mut covered, mut turned) = (table.clone(), table.clone(), table.clone());
+    dropped.held[1] = 1;
+    covered.summaries[2][0] = 1;
+    turned.logs[1].swap(0, 1);
+    let right = (0..3).all(|p| account.fault(&table, p).is_none());
+    let told = [(&dropped, 1), (&covered, 2), (&turned, 1)].into_iter().all(|(table, p)| account.fault(table, p).is_some());
+    if right && told {
+        Ok(())
+    } else {
+        Err("the account of demand 3 does not tell right from wrong".into())
+    }
+}
+
+pub fn all(library: &mut Library) -> Result<(), String> {
+    account_tells()?;
+    all_counts(library)?;
+    all_steps(library)?;
+    all_lines(library)?;
+    all_verdicts(library)?;
+    all_journals(library)
+}

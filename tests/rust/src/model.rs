@@ -1,0 +1,382 @@
+//! An independent implementation of document 01 in plain Rust: tables as vectors, steps and their
+//! refusals, frames both ways, journals, the replay's text and the verdict count.
+//! It was written from that document alone and shares nothing with the proved code.
+#![allow(dead_code)]
+
+use std::fmt::Write as _;
+
+pub const WORDS: usize = 4625;
+pub const NODES: usize = 16;
+pub const ROOM: usize = 64;
+pub const JOURNAL: usize = 65_536;
+
+/// One finding: a row of a log.
+#[derive(Clone, Copy, PartialEq, Eq, Debug, Default)]
+pub struct Record {
+    pub origin: u32,
+    pub timestamp: u32,
+    pub block: u32,
+    pub verdict: u32,
+}
+
+/// The parts of a table of 4,625 words, those that take no part included.
+#[derive(Clone, PartialEq, Eq, Debug)]
+pub struct Table {
+    pub count: u32,
+    pub summaries: Vec<Vec<u32>>,
+    pub acknowledgements: Vec<Vec<u32>>,
+    pub held: Vec<u32>,
+    pub logs: Vec<Vec<Record>>,
+}
+
+/// The three actions, each with its own fields, as wide as in the frame.
+#[derive(Clone, Copy, PartialEq, Eq, Debug)]
+pub enum Action {
+    Write { node: u8, timestamp: u32, block: u32, verdict: u8 },
+    Session { a: u8, b: u8, ca: u32, cb: u32, outcome: u8 },
+    Purge { node: u8 },
+}
+
+/// What a step says: the refusal number (0 for none) and the counts of its kind.
+#[derive(Clone, Copy, PartialEq, Eq, Debug, Default)]
+pub struct Reply {
+    pub refusal: u32,
+    pub to_a: u32,
+    pub to_b: u32,
+    pub removed: u32,
+}
+
+/// A line that was read.
+#[derive(Clone, Copy, PartialEq, Eq, Debug)]
+pub enum Frame {
+    Start(u8),
+    Step(Action),
+}
+
+/// "Making one is refused with 1 if the count or the length is wrong."
+pub fn fresh(length: usize, count: u32) -> Result<Table, u32> {
+    if length != WORDS || !(2..=16).contains(&count) {
+        return Err(1);
+    }
+    Ok(Table {
+        count,
+        summaries: vec![vec![0; NODES]; NODES],
+        acknowledgements: vec![vec![0; NODES]; NODES],
+        held: vec![0; NODES],
+        logs: vec![vec![Record::default(); ROOM]; NODES],
+    })
+}
+
+impl Table {
+    /// The table that these words spell, if they are 4,625.
+    pub fn from_words(words: &[u32]) -> Option<Table> {
+        if words.len() != WORDS {
+            return None;
+        }
+        let mut rest = words;
+        let mut take = |many: usize| {
+            let (now, later) = rest.split_at(many);
+            rest = later;
+            now
+        };
+        let count = take(1)[0];
+        let summaries = (0..NODES).map(|_| take(NODES).to_vec()).collect();
+        let acknowledgements = (0..NODES).map(|_| take(NODES).to_vec()).collect();
+        let held = take(NODES).to_vec();
+        let logs = (0..NODES).map(|_| take(ROOM * 4).chunks(4).map(|w| Record { origin: w[0], timestamp: w[1], block: w[2], verdict: w[3] }).collect()).collect();
+        Some(Table { count, summaries, acknowledgements, held, logs })
+    }
+
+    /// Writes the words of the table, in the order of document 01's parts, over `out`.
+    pub fn to_words(&self, out: &mut Vec<u32>) {
+        out.clear();
+        out.push(self.count);
+        for row in &self.summaries {
+            out.extend_from_slice(row);
+        }
+        for row in &self.acknowledgements {
+            out.extend_from_slice(row);
+        }
+        out.extend_from_slice(&self.held);
+        for log in &self.logs {
+            for r in log {
+                out.extend_from_slice(&[r.origin, r.timestamp, r.block, r.verdict]);
+            }
+        }
+    }
+
+    pub fn n(&self) -> usize {
+        self.count as usize
+    }
+
+    /// The records that node p holds.
+    pub fn log(&self, p: usize) -> &[Record] {
+        &self.logs[p][..self.held[p] as usize]
+    }
+
+    /// "A table is sound if .." (the length is right already).
+    pub fn sound(&self) -> bool {
+        (2..=16).contains(&self.count) && (0..self.n()).all(|p| self.held[p] as usize <= ROOM && self.log(p).iter().all(|r| r.origin < self.count && r.verdict <= 255))
+    }
+
+    /// The starting summary and acknowledgement row of a session's side.
+    fn opened(&self, p: usize, reading: u32) -> (Vec<u32>, Vec<u32>) {
+        let mut summary = self.summaries[p].clone();
+        summary[p] = reading;
+        let mut acknowledgement = self.acknowledgements[p].clone();
+        acknowledgement[p] = *summary[..self.n()].iter().min().unwrap();
+        (summary, acknowledgement)
+    }
+
+    /// What a finishing side takes: the partner's records newer than its own starting summary.
+    fn newer(&self, partner: usize, summary: &[u32]) -> Vec<Record> {
+        self.log(partner).iter().filter(|r| r.timestamp > summary[r.origin as usize]).copied().collect()
+    }
+
+    /// Applies a step; a refused one changes nothing.
+    pub fn apply(&mut self, action: Action) -> Reply {
+        match self.try_apply(action) {
+            Ok(reply) => reply,
+            Err(refusal) => Reply { refusal, ..Reply::default() },
+        }
+    }
+
+    fn try_apply(&mut self, action: Action) -> Result<Reply, u32> {
+        if !self.sound() {
+            return Err(1);
+        }
+        match action {
+            Action::Write { node, timestamp, block, verdict } => self.write(node, timestamp, block, verdict),
+            Action::Session { a, b, ca, cb, outcome } => self.session(a, b, ca, cb, outcome),
+            Action::Purge { node } => self.purge(node),
+        }
+    }
+
+    pub fn write(&mut self, node: u8, timestamp: u32, block: u32, verdict: u8) -> Result<Reply, u32> {
+        let p = self.node(node)?;
+        if timestamp <= self.summaries[p][p] {
+            return Err(5);
+        }
+        if self.held[p] as usize == ROOM {
+            return Err(6);
+        }
+        self.append(p, Record { origin: p as u32, timestamp, block, verdict: u32::from(verdict) });
+        self.summaries[p][p] = timestamp;
+        Ok(Reply::default())
+    }
+
+    pub fn session(&mut self, a: u8, b: u8, ca: u32, cb: u32, outcome: u8) -> Result<Reply, u32> {
+        if outcome > 3 {
+            return Err(2);
+        }
+        let (a, b) = (self.node(a)?, self.node(b)?);
+        if a == b {
+            return Err(4);
+        }
+        if ca < self.summaries[a][a] || cb < self.summaries[b][b] {
+            return Err(5);
+        }
+        let (a_finishes, b_finishes) = (outcome == 1 || outcome == 3, outcome == 2 || outcome == 3);
+        let (summary_a, acknowledgement_a) = self.opened(a, ca);
+        let (summary_b, acknowledgement_b) = self.opened(b, cb);
+        let for_a = if a_finishes { self.newer(b, &summary_a) } else { Vec::new() };
+        let for_b = if b_finishes { self.newer(a, &summary_b) } else { Vec::new() };
+        if self.held[a] as usize + for_a.len() > ROOM || self.held[b] as usize + for_b.len() > ROOM {
+            return Err(6);
+        }
+        let n = self.n();
+        for (p, finishes, own, other, records) in [
+            (a, a_finishes, (&summary_a, &acknowledgement_a), (&summary_b, &acknowledgement_b), &for_a),
+            (b, b_finishes, (&summary_b, &acknowledgement_b), (&summary_a, &acknowledgement_a), &for_b),
+        ] {
+            self.summaries[p].clone_from(own.0);
+            self.acknowledgements[p].clone_from(own.1);
+            if finishes {
+                for q in 0..n {
+                    self.summaries[p][q] = own.0[q].max(other.0[q]);
+                    self.acknowledgements[p][q] = own.1[q].max(other.1[q]);
+                }
+            }
+            for &record in records {
+                self.append(p, record);
+            }
+        }
+        Ok(Reply { to_a: for_a.len() as u32, to_b: for_b.len() as u32, ..Reply::default() })
+    }
+
+    pub fn purge(&mut self, node: u8) -> Result<Reply, u32> {
+        let p = self.node(node)?;
+        let smallest = *self.acknowledgements[p][..self.n()].iter().min().unwrap();
+        let before = self.held[p] as usize;
+        let kept: Vec<Record> = self.log(p).iter().filter(|r| r.timestamp > smallest).copied().collect();
+        for row in 0..before {
+            self.logs[p][row] = kept.get(row).copied().unwrap_or_default();
+        }
+        self.held[p] = kept.len() as u32;
+        Ok(Reply { removed: (before - kept.len()) as u32, ..Reply::default() })
+    }
+
+    fn node(&self, node: u8) -> Result<usize, u32> {
+        if u32::from(node) < self.count {
+            Ok(usize::from(node))
+        } else {
+            Err(3)
+        }
+    }
+
+    fn append(&mut self, p: usize, record: Record) {
+        let row = self.held[p] as usize;
+        self.logs[p][row] = record;
+        self.held[p] += 1;
+    }
+}
+
+/// Scrubbed and touched over a list of words, or refusal 1.
+pub fn count(words: &[u32]) -> Result<(u32, u32), u32> {
+    if words.len() % 4 != 0 || words.len() > 4 * ROOM || words.chunks(4).any(|r| r[3] > 255) {
+        return Err(1);
+    }
+    let among = |low, high| words.chunks(4).filter(|r| r[3] >= low && r[3] <= high).count() as u32;
+    Ok((among(0x10, 0x4F), among(0x20, 0x4F)))
+}
+
+/// The bytes of a frame with their check byte, as a line with its LF.
+fn line_of(bytes: &[u8]) -> Vec<u8> {
+    let sum = bytes.iter().fold(0u8, |s, b| s.wrapping_add(*b));
+    let mut text = String::new();
+    for byte in bytes.iter().chain([0u8.wrapping_sub(sum)].iter()) {
+        write!(text, "{byte:02X}").unwrap();
+    }
+    text.push('\n');
+    text.into_bytes()
+}
+
+/// The frame of a start.
+pub fn start_frame(n: u8) -> Vec<u8> {
+    line_of(&[0, n])
+}
+
+/// The frame of a step, refused with 2 for a session with some other outcome.
+pub fn frame(action: Action) -> Result<Vec<u8>, u32> {
+    let mut bytes = Vec::new();
+    match action {
+        Action::Write { node, timestamp, block, verdict } => {
+            bytes.extend([1, node]);
+            bytes.extend(timestamp.to_be_bytes());
+            bytes.extend(block.to_be_bytes());
+            bytes.push(verdict);
+        }
+        Action::Session { a, b, ca, cb, outcome } => {
+            if outcome > 3 {
+                return Err(2);
+            }
+            bytes.extend([2, a, b]);
+            bytes.extend(ca.to_be_bytes());
+            bytes.extend(cb.to_be_bytes());
+            bytes.push(outcome);
+        }
+        Action::Purge { node } => bytes.extend([3, node]),
+    }
+    Ok(line_of(&bytes))
+}
+
+/// Reads a single line without its LF: refusals 12, 11, 13 and the last clause of 15.
+pub fn read(line: &[u8]) -> Result<Frame, u32> {
+    let mut digits = Vec::with_capacity(line.len());
+    for &c in line {
+        digits.push(match c {
+            b'0'..=b'9' => c - b'0',
+            b'A'..=b'F' => c - b'A' + 10,
+            _ => return Err(12),
+        });
+    }
+    if digits.is_empty() || digits.len() % 2 != 0 {
+        return Err(11);
+    }
+    let bytes: Vec<u8> = digits.chunks(2).map(|d| d[0] * 16 + d[1]).collect();
+    let number = |at: usize| u32::from_be_bytes([bytes[at], bytes[at + 1], bytes[at + 2], bytes[at + 3]]);
+    let frame = match (bytes[0], line.len()) {
+        (0, 6) => Frame::Start(bytes[1]),
+        (1, 24) => Frame::Step(Action::Write { node: bytes[1], timestamp: number(2), block: number(6), verdict: bytes[10] }),
+        (2, 26) => Frame::Step(Action::Session { a: bytes[1], b: bytes[2], ca: number(3), cb: number(7), outcome: bytes[11] }),
+        (3, 6) => Frame::Step(Action::Purge { node: bytes[1] }),
+        _ => return Err(11),
+    };
+    if matches!(frame, Frame::Step(Action::Session { outcome, .. }) if outcome > 3) {
+        return Err(11);
+    }
+    if bytes.iter().fold(0u8, |s, b| s.wrapping_add(*b)) != 0 {
+        return Err(13);
+    }
+    if matches!(frame, Frame::Start(n) if !(2..=16).contains(&n)) {
+        return Err(15);
+    }
+    Ok(frame)
+}
+
+/// The kind of a frame and its fields in the order of document 01's table.
+pub fn fields(frame: Frame) -> (u32, Vec<u32>) {
+    let w = |b: u8| u32::from(b);
+    match frame {
+        Frame::Start(n) => (0, vec![w(n)]),
+        Frame::Step(Action::Write { node, timestamp, block, verdict }) => (1, vec![w(node), timestamp, block, w(verdict)]),
+        Frame::Step(Action::Session { a, b, ca, cb, outcome }) => (2, vec![w(a), w(b), ca, cb, w(outcome)]),
+        Frame::Step(Action::Purge { node }) => (3, vec![w(node)]),
+    }
+}
+
+/// The line of a journal at a place, and the place after it.
+fn next_line(journal: &[u8], at: usize) -> Result<(Frame, usize), u32> {
+    let end = journal[at..].iter().position(|&c| c == b'\n').ok_or(14u32)? + at;
+    let frame = read(&journal[at..end])?;
+    if matches!(frame, Frame::Start(_)) == (at == 0) {
+        Ok((frame, end + 1))
+    } else {
+        Err(15)
+    }
+}
+
+/// The lines of a journal up to the first refused, and its refusal, 0 if there is none.
+pub fn lines(journal: &[u8]) -> (Vec<Frame>, u32) {
+    let (mut at, mut frames) = (0, Vec::new());
+    while at < journal.len() {
+        match next_line(journal, at) {
+            Ok((frame, next)) => {
+                frames.push(frame);
+                at = next;
+            }
+            Err(refusal) => return (frames, refusal),
+        }
+    }
+    let refusal = if frames.is_empty() { 15 } else { 0 };
+    (frames, refusal)
+}
+
+/// What the replay program prints for a journal, and the table that the steps before a refused line,
+/// or all of them, leave; none where no start is read.
+pub fn replay(journal: &[u8]) -> (String, Option<Table>) {
+    if journal.len() > JOURNAL {
+        return ("BAD 0 16\n".into(), None);
+    }
+    let (frames, refusal) = lines(journal);
+    let bad = format!("BAD {} {refusal}\n", frames.len() + 1);
+    let Some(&Frame::Start(n)) = frames.first() else { return (bad, None) };
+    let mut table = fresh(WORDS, u32::from(n)).unwrap();
+    let mut refused = 0;
+    for frame in &frames[1..] {
+        let Frame::Step(action) = *frame else { unreachable!() };
+        refused += usize::from(table.apply(action).refusal != 0);
+    }
+    if refusal != 0 {
+        return (bad, Some(table));
+    }
+    let mut text = format!("N {} STEPS {} REFUSED {}\n", n, frames.len() - 1, refused);
+    for p in 0..table.n() {
+        write!(text, "{p} S").unwrap();
+        table.summaries[p][..table.n()].iter().for_each(|e| write!(text, " {e}").unwrap());
+        text.push_str(" K");
+        table.acknowledgements[p][..table.n()].iter().for_each(|e| write!(text, " {e}").unwrap());
+        writeln!(text, " L {}", table.held[p]).unwrap();
+    }
+    (text, Some(table))
+}

@@ -1,0 +1,136 @@
+//! How often each refusal number, and each situation that document 01 names, was reached.
+
+use crate::model::Action;
+use crate::steps::{Event, MOST};
+use std::collections::BTreeMap;
+
+#[derive(Default)]
+pub struct Reached(BTreeMap<String, u64>);
+
+/// Everything that a run must have reached at least once.
+const MUST: [&str; 63] = [
+    "fresh 0",
+    "fresh 1",
+    "write 0",
+    "write 1",
+    "write 3",
+    "write 5",
+    "write 6",
+    "session 0",
+    "session 1",
+    "session 2",
+    "session 3",
+    "session 4",
+    "session 5",
+    "session 6",
+    "purge 0",
+    "purge 1",
+    "purge 3",
+    "session accepted, outcome 0",
+    "session accepted, outcome 1",
+    "session accepted, outcome 2",
+    "session accepted, outcome 3",
+    "session carried 32 or more",
+    "session carried to both sides",
+    "session with 64 held, bringing none",
+    "session refused with 6, 63 held",
+    "write refused with 5 on a full log",
+    "write at 4294967295",
+    "session at 4294967295",
+    "purge of none",
+    "purge of some",
+    "purge of a full log to none",
+    "write into room that a purge freed",
+    "demand 3 looked at",
+    "count 0",
+    "count 1",
+    "count_node 0",
+    "count_node 1",
+    "count_node 3",
+    "line 0",
+    "line 11",
+    "line 12",
+    "line 13",
+    "line 15",
+    "frame start 0",
+    "frame start 15",
+    "frame start 17",
+    "frame write 0",
+    "frame write 17",
+    "frame session 0",
+    "frame session 2",
+    "frame session 17",
+    "frame purge 0",
+    "frame purge 17",
+    "replay done",
+    "replay nothing",
+    "replay 11",
+    "replay 12",
+    "replay 13",
+    "replay 14",
+    "replay 15",
+    "replay 16",
+    "replay of 65536 bytes",
+    "replay with steps refused",
+];
+
+impl Reached {
+    pub fn add(&mut self, what: &str) {
+        match self.0.get_mut(what) {
+            Some(many) => *many += 1,
+            None => {
+                self.0.insert(what.into(), 1);
+            }
+        }
+    }
+
+    /// A step with its reply and what its nodes held before.
+    pub fn step(&mut self, event: Event, said: [u32; 3], held: [u32; 2]) {
+        match event {
+            Event::Fresh(_) => self.numbered(&["fresh 0", "fresh 1"], said[0]),
+            Event::Step(Action::Write { timestamp, .. }) => {
+                self.numbered(&["write 0", "write 1", "", "write 3", "", "write 5", "write 6"], said[0]);
+                self.when(said[0] == 5 && held[0] == MOST, "write refused with 5 on a full log");
+                self.when(said[0] == 0 && timestamp == u32::MAX, "write at 4294967295");
+            }
+            Event::Step(Action::Session { ca, cb, outcome, .. }) => {
+                self.numbered(&["session 0", "session 1", "session 2", "session 3", "session 4", "session 5", "session 6"], said[0]);
+                self.when(said[0] == 6 && (held[0] == MOST - 1 || held[1] == MOST - 1), "session refused with 6, 63 held");
+                if said[0] == 0 {
+                    self.numbered(&["session accepted, outcome 0", "session accepted, outcome 1", "session accepted, outcome 2", "session accepted, outcome 3"], outcome.into());
+                    self.when(said[1] >= 32 || said[2] >= 32, "session carried 32 or more");
+                    self.when(said[1] > 0 && said[2] > 0, "session carried to both sides");
+                    self.when((held[0] == MOST && outcome & 1 == 1) || (held[1] == MOST && outcome & 2 == 2), "session with 64 held, bringing none");
+                    self.when(ca == u32::MAX || cb == u32::MAX, "session at 4294967295");
+                }
+            }
+            Event::Step(Action::Purge { .. }) => {
+                self.numbered(&["purge 0", "purge 1", "", "purge 3"], said[0]);
+                if said[0] == 0 {
+                    self.when(said[1] == 0, "purge of none");
+                    self.when(said[1] > 0 && said[1] < held[0], "purge of some");
+                    self.when(said[1] == MOST, "purge of a full log to none");
+                }
+            }
+            _ => {}
+        }
+    }
+
+    fn when(&mut self, it_is: bool, what: &str) {
+        if it_is {
+            self.add(what);
+        }
+    }
+
+    fn numbered(&mut self, names: &[&str], number: u32) {
+        self.add(names[number as usize]);
+    }
+
+    /// Prints the table of what was reached; the answer is what never was.
+    pub fn report(&self) -> Vec<&'static str> {
+        for (what, many) in &self.0 {
+            println!("  {many:>12}  {what}");
+        }
+        MUST.into_iter().filter(|what| !self.0.contains_key(*what)).collect()
+    }
+}

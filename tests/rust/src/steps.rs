@@ -1,0 +1,551 @@
+//! Random clusters in many styles, run step by step on the model and on the library, compared word
+//! by word, with the account of demand 3 beside them.
+
+use crate::account::Account;
+use crate::library::{Calls, Library, BATCH};
+use crate::model::{count, fresh, Action, Table, ROOM, WORDS};
+use crate::random::Random;
+use crate::reached::Reached;
+use crate::shrink::shortest;
+
+/// What may happen to a table: the calls of the C interface, and damage.
+#[derive(Clone, Copy, PartialEq, Debug)]
+pub enum Event {
+    Fresh(u32),
+    Step(Action),
+    Poke(u32, u32),
+    CountNode(u8),
+    Look { node: u8, origin: u8, index: u32, word: u32 },
+}
+
+/// A table's first words and what then happens to it.
+#[derive(Clone)]
+pub struct Scenario {
+    pub words: Vec<u32>,
+    pub events: Vec<Event>,
+}
+
+#[derive(Clone, Copy, PartialEq, Debug)]
+pub enum Style {
+    Gossip,
+    Full,
+    Lagging,
+    Largest,
+    Wild,
+    Edges,
+    Cut,
+    Drain,
+    Damaged,
+    Arbitrary,
+    WrongLength,
+}
+
+const STYLES: [Style; 11] =
+    [Style::Gossip, Style::Full, Style::Lagging, Style::Largest, Style::Wild, Style::Edges, Style::Cut, Style::Drain, Style::Damaged, Style::Arbitrary, Style::WrongLength];
+
+/// Where the parts stand, for the damage.
+const SUMMARY: u32 = 1;
+const ACKNOWLEDGEMENT: u32 = 257;
+const HELD: u32 = 513;
+const LOG: u32 = 529;
+
+/// Makes the scenario of a seed. Its events aim at the model's own table, which runs along.
+pub fn make(seed: u64) -> Scenario {
+    let mut rng = Random::new(seed);
+    let style = match rng.below(40) {
+        0 => Style::WrongLength,
+        1..=2 => Style::Wild,
+        3..=5 => Style::Damaged,
+        _ => rng.among(&STYLES[..10]),
+    };
+    let n = 2 + rng.below(15);
+    let n = if rng.percent(40) || style == Style::Drain { n.min(4) } else { n };
+    let words = first_words(&mut rng, style, n);
+    let mut table = Table::from_words(&words);
+    let mut maker = Maker { clocks: (0..16).map(|_| rng.below(40)).collect(), mended: None, turn: 0, style, rng };
+    let mut events = Vec::new();
+    if !matches!(style, Style::Arbitrary | Style::WrongLength) {
+        events.push(Event::Fresh(n));
+    }
+    let many = match style {
+        Style::Full => 200 + maker.rng.below(300),
+        Style::WrongLength => 8,
+        _ => 20 + maker.rng.below(240),
+    };
+    for _ in 0..many {
+        if let (Some(table), Some(&last)) = (&mut table, events.last()) {
+            let _ = apply(table, last);
+        }
+        let event = match &table {
+            Some(table) => maker.event(table),
+            None => maker.event(&fresh(WORDS, n).unwrap()),
+        };
+        events.push(event);
+    }
+    Scenario { words, events }
+}
+
+/// The words that a scenario starts from: rubbish for a fresh table to be made in, an arbitrary
+/// sound table, or a wrong length.
+fn first_words(rng: &mut Random, style: Style, n: u32) -> Vec<u32> {
+    let length = if style == Style::WrongLength { rng.among(&[0, 1, 529, 4624, 4626, 8000]) } else { WORDS };
+    let small = rng.percent(50);
+    let mut words: Vec<u32> = (0..length).map(|_| if small { rng.below(12) } else { rng.word() }).collect();
+    if length > 0 && style != Style::Arbitrary {
+        words[0] = n;
+    }
+    if style == Style::Arbitrary {
+        words[0] = n;
+        for p in 0..16 {
+            let held = if rng.percent(20) { 64 } else { rng.below(65) };
+            words[(HELD + p) as usize] = if p < n || rng.percent(50) { held } else { rng.word() };
+            for row in 0..64 {
+                let at = (LOG + 256 * p + 4 * row) as usize;
+                if p < n && row < held {
+                    words[at] = rng.below(n);
+                    words[at + 3] = rng.below(256);
+                }
+            }
+        }
+    }
+    words
+}
+
+/// The maker of events: a style, a clock for each node, the word that damage is to be mended to, and
+/// a turn for the style that fills a log and drains it.
+struct Maker {
+    rng: Random,
+    style: Style,
+    clocks: Vec<u32>,
+    mended: Option<(u32, u32)>,
+    turn: u32,
+}
+
+impl Maker {
+    fn event(&mut self, t: &Table) -> Event {
+        if self.style == Style::Damaged {
+            if let Some((index, value)) = self.mended {
+                if self.rng.percent(25) {
+                    self.mended = None;
+                    return Event::Poke(index, value);
+                }
+            } else if self.rng.percent(25) {
+                return self.damage(t);
+            }
+        }
+        if self.style == Style::Drain && self.rng.percent(99) {
+            return Event::Step(self.drain(t));
+        }
+        let (writes, sessions) = match self.style {
+            Style::Full => (70, 26),
+            Style::Gossip => (40, 40),
+            Style::Cut => (30, 55),
+            _ => (40, 42),
+        };
+        let n = t.count.clamp(2, 16);
+        match self.rng.below(100) {
+            97 => Event::CountNode(self.node(n)),
+            95 | 96 if self.style == Style::Damaged => Event::CountNode(self.node(n)),
+            98 => Event::Look { node: self.node(n), origin: self.node(n), index: self.rng.below(70), word: self.rng.below(6) },
+            99 if self.rng.percent(10) => Event::Fresh(self.rng.below(20)),
+            99 if self.rng.percent(3) => Event::Fresh(self.rng.word()),
+            k if k < writes => Event::Step(self.write(t, n)),
+            k if k < writes + sessions => Event::Step(self.session(t, n)),
+            _ => Event::Step(Action::Purge { node: self.node(n) }),
+        }
+    }
+
+    /// Fills node 0's log, lets all pairs meet until all is acknowledged, and purges every node.
+    fn drain(&mut self, t: &Table) -> Action {
+        let (n, turn) = (t.count.clamp(2, 16), self.turn);
+        self.turn += 1;
+        if turn < MOST + 1 {
+            let timestamp = self.reading(0, self.own(t, 0));
+            return Action::Write { node: 0, timestamp, block: turn, verdict: self.rng.byte() };
+        }
+        let meeting = turn - MOST - 1;
+        if meeting < 4 * (n - 1) {
+            let (round, k) = (meeting / (n - 1) % 2, meeting % (n - 1));
+            let a = if round == 0 { k } else { n - 2 - k } as u8;
+            let (ca, cb) = (self.reading(a, self.own(t, a)), self.reading(a + 1, self.own(t, a + 1)));
+            let late = self.clocks.iter().copied().max().unwrap_or(0);
+            return Action::Session { a, b: a + 1, ca: ca.max(late), cb: cb.max(late), outcome: 3 };
+        }
+        if meeting + 1 == 4 * (n - 1) + n {
+            self.turn = self.rng.below(MOST);
+        }
+        Action::Purge { node: (meeting - 4 * (n - 1)) as u8 }
+    }
+
+    /// A node below n, or now and then another.
+    fn node(&mut self, n: u32) -> u8 {
+        match self.rng.below(if self.style == Style::Wild { 4 } else { 150 }) {
+            0 => self.rng.byte(),
+            1 => n as u8,
+            _ if self.style == Style::Full => self.rng.below(n.min(3)) as u8,
+            _ => self.rng.below(n) as u8,
+        }
+    }
+
+    /// A timestamp or reading for a node whose own entry is `own`.
+    fn reading(&mut self, node: u8, own: u32) -> u32 {
+        let p = usize::from(node) % 16;
+        self.clocks[p] = self.clocks[p].saturating_add(self.rng.below(4));
+        match self.style {
+            Style::Gossip | Style::Full | Style::Drain | Style::Damaged if self.rng.percent(96) => {
+                self.clocks[p] = self.clocks[p].max(own).saturating_add(self.rng.below(3));
+                self.clocks[p].max(own.saturating_add(1))
+            }
+            Style::Lagging if p == 0 => own.saturating_add(self.rng.below(2)),
+            Style::Lagging => self.clocks[p],
+            Style::Largest => {
+                let near = own.saturating_add(self.rng.below(3));
+                self.rng.among(&[u32::MAX, u32::MAX - 1, u32::MAX - 2, near, near, near, near, 0])
+            }
+            Style::Wild => self.rng.word(),
+            Style::Edges => self.rng.below(6),
+            _ => match self.rng.below(12) {
+                0 => own.wrapping_sub(1),
+                1 => own,
+                2 => self.rng.word(),
+                k => own.saturating_add(k - 2),
+            },
+        }
+    }
+
+    fn own(&self, t: &Table, node: u8) -> u32 {
+        let p = usize::from(node) % 16;
+        t.summaries[p][p]
+    }
+
+    fn write(&mut self, t: &Table, n: u32) -> Action {
+        let node = self.node(n);
+        let timestamp = self.reading(node, self.own(t, node));
+        let block = if self.rng.percent(50) { self.rng.below(5) } else { self.rng.word() };
+        let verdict = if self.rng.percent(50) { self.rng.below(0x60) as u8 } else { self.rng.byte() };
+        Action::Write { node, timestamp, block, verdict }
+    }
+
+    fn session(&mut self, t: &Table, n: u32) -> Action {
+        let a = self.node(n);
+        let b = if self.rng.percent(97) { (a as u32 + 1 + self.rng.below(n - 1)) as u8 } else { self.node(n) };
+        let b = if u32::from(b) >= n && self.rng.percent(98) { b % n as u8 } else { b };
+        let outcome = match self.rng.below(100) {
+            0 => self.rng.byte(),
+            1 => 4,
+            k if self.style == Style::Cut || k < 25 => self.rng.below(4) as u8,
+            _ => 3,
+        };
+        let (ca, cb) = (self.reading(a, self.own(t, a)), self.reading(b, self.own(t, b)));
+        Action::Session { a, b, ca, cb, outcome }
+    }
+
+    /// A word to spoil, chosen among those that matter, and the value that mends it.
+    fn damage(&mut self, t: &Table) -> Event {
+        let p = self.rng.below(16);
+        let index = match self.rng.below(7) {
+            0 => 0,
+            1 | 2 => HELD + p,
+            3 => SUMMARY + self.rng.below(256),
+            4 => ACKNOWLEDGEMENT + self.rng.below(256),
+            5 => LOG + 256 * p + 4 * self.rng.below(8) + self.rng.among(&[0, 3]),
+            _ => LOG + 256 * p + 4 * t.held[p as usize].wrapping_sub(1).min(63) + self.rng.among(&[0, 0, 1, 3, 3]),
+        };
+        let mut words = Vec::new();
+        t.to_words(&mut words);
+        let old = words[index as usize];
+        self.mended = Some((index, old));
+        let (low, high) = (self.rng.below(18), self.rng.word());
+        let least_wrong = match index {
+            0 => self.rng.among(&[0, 1, 17]),
+            HELD..LOG => 65,
+            LOG.. if (index - LOG) % 4 == 0 => t.count,
+            LOG.. => 256,
+            _ => u32::MAX,
+        };
+        Event::Poke(index, self.rng.among(&[least_wrong, least_wrong, least_wrong, 0, 1, 2, 16, 64, 255, low, high, u32::MAX, old.wrapping_add(1), old.wrapping_sub(1)]))
+    }
+}
+
+/// Applies an event to the model; the answer is what a step or a making says.
+fn apply(table: &mut Table, event: Event) -> Option<[u32; 3]> {
+    const NONE: u32 = u32::MAX;
+    match event {
+        Event::Fresh(n) => Some(match fresh(WORDS, n) {
+            Ok(made) => {
+                *table = made;
+                [0, NONE, NONE]
+            }
+            Err(refusal) => [refusal, NONE, NONE],
+        }),
+        Event::Step(action) => {
+            let r = table.apply(action);
+            Some(match action {
+                Action::Write { .. } => [r.refusal, NONE, NONE],
+                Action::Session { .. } => [r.refusal, r.to_a, r.to_b],
+                Action::Purge { .. } => [r.refusal, r.removed, NONE],
+            })
+        }
+        Event::Poke(index, value) => {
+            let mut words = Vec::new();
+            table.to_words(&mut words);
+            words[index as usize] = value;
+            *table = Table::from_words(&words).unwrap();
+            None
+        }
+        _ => None,
+    }
+}
+
+/// What the verdict count over one node's log, and a look at the table, must say.
+fn counted(table: Option<&Table>, node: u8) -> [u32; 3] {
+    let Some(t) = table.filter(|t| t.sound()) else { return [1, 0, 0] };
+    if u32::from(node) >= t.count {
+        return [3, 0, 0];
+    }
+    let words: Vec<u32> = t.log(node.into()).iter().flat_map(|r| [r.origin, r.timestamp, r.block, r.verdict]).collect();
+    let (scrubbed, touched) = count(&words).unwrap();
+    [0, scrubbed, touched]
+}
+
+fn looked(table: Option<&Table>, node: u8, origin: u8, index: u32, word: u32) -> [u32; 4] {
+    let Some(t) = table.filter(|t| t.sound() && u32::from(node) < t.count) else { return [0; 4] };
+    let (p, o) = (usize::from(node), usize::from(origin));
+    let entry = |row: &[u32]| if o < t.n() { row[o] } else { 0 };
+    let record = t.log(p).get(index as usize).map_or(0, |r| match word {
+        0 => r.origin,
+        1 => r.timestamp,
+        2 => r.block,
+        3 => r.verdict,
+        _ => 0,
+    });
+    [entry(&t.summaries[p]), entry(&t.acknowledgements[p]), t.held[p], record]
+}
+
+/// One run of a scenario on both sides.
+struct Run<'a> {
+    table: Option<Table>,
+    expected: Vec<u32>,
+    account: Option<Account>,
+    /// The nodes whose full log a purge has made room in.
+    freed: [bool; 256],
+    reached: &'a mut Reached,
+}
+
+impl Run<'_> {
+    /// Compares the answers to one event; a text says what differs.
+    fn event(&mut self, event: Event, answers: &mut crate::library::Answers) -> Result<(), String> {
+        let before_held = self.situation(event);
+        match event {
+            Event::Fresh(_) | Event::Step(_) => {
+                let said = match &mut self.table {
+                    Some(table) => apply(table, event).unwrap(),
+                    None => refused_with_1(event),
+                };
+                same("the reply", &[answers.word(), answers.word(), answers.word()], &said)?;
+                self.reached.step(event, said, before_held);
+                if said[0] == 0 {
+                    self.table.as_ref().unwrap().to_words(&mut self.expected);
+                }
+                words(answers.words(self.expected.len()), &self.expected)?;
+                if said[0] == 0 {
+                    self.room(event, said, before_held);
+                    self.demand_3(event)?;
+                }
+            }
+            Event::Poke(index, value) => {
+                if let Some(table) = &mut self.table {
+                    let _ = apply(table, event);
+                    self.expected[index as usize] = value;
+                }
+                self.account = None;
+            }
+            Event::CountNode(node) => {
+                let said = counted(self.table.as_ref(), node);
+                self.reached.add(&format!("count_node {}", said[0]));
+                same("the count", &[answers.word(), answers.word(), answers.word()], &said)?;
+            }
+            Event::Look { node, origin, index, word } => {
+                let said = looked(self.table.as_ref(), node, origin, index, word);
+                same("summary, acknowledgement, held, record", answers.words(4), &said)?;
+                words(answers.words(self.expected.len()), &self.expected)?;
+            }
+        }
+        Ok(())
+    }
+
+    /// "Room freed by a purge is used again": notes when it is.
+    fn room(&mut self, event: Event, said: [u32; 3], held: [u32; 2]) {
+        match event {
+            Event::Step(Action::Purge { node }) if said[1] > 0 && held[0] == MOST => self.freed[usize::from(node)] = true,
+            Event::Step(Action::Write { node, .. }) if self.freed[usize::from(node)] => self.reached.add("write into room that a purge freed"),
+            Event::Fresh(_) => self.freed = [false; 256],
+            _ => {}
+        }
+    }
+
+    /// What the nodes of a step held before it, for the situations that must be reached.
+    fn situation(&self, event: Event) -> [u32; 2] {
+        let held = |p: u8| self.table.as_ref().map_or(0, |t| t.held[usize::from(p) % 16]);
+        match event {
+            Event::Step(Action::Write { node, .. } | Action::Purge { node }) => [held(node), 0],
+            Event::Step(Action::Session { a, b, .. }) => [held(a), held(b)],
+            _ => [0, 0],
+        }
+    }
+
+    /// The account takes the accepted step in; the nodes of the step are looked at.
+    fn demand_3(&mut self, event: Event) -> Result<(), String> {
+        let table = self.table.as_ref().unwrap();
+        if let Event::Fresh(n) = event {
+            self.account = Some(Account::fresh(n as usize));
+        }
+        let (Some(account), Event::Step(action)) = (&mut self.account, event) else { return Ok(()) };
+        account.accepted(action);
+        self.reached.add("demand 3 looked at");
+        let nodes = match action {
+            Action::Write { node, .. } | Action::Purge { node } => [node, node],
+            Action::Session { a, b, .. } => [a, b],
+        };
+        for p in nodes {
+            if let Some(fault) = account.fault(table, p.into()) {
+                return Err(format!("demand 3: {fault}"));
+            }
+        }
+        Ok(())
+    }
+
+    fn demand_3_everywhere(&self) -> Result<(), String> {
+        let (Some(account), Some(table)) = (&self.account, &self.table) else { return Ok(()) };
+        (0..table.n()).find_map(|p| account.fault(table, p)).map_or(Ok(()), |fault| Err(format!("demand 3: {fault}")))
+    }
+}
+
+fn refused_with_1(event: Event) -> [u32; 3] {
+    match event {
+        Event::Step(Action::Session { .. }) => [1, 0, 0],
+        Event::Step(Action::Purge { .. }) => [1, 0, u32::MAX],
+        _ => [1, u32::MAX, u32::MAX],
+    }
+}
+
+fn same(what: &str, is: &[u32], should: &[u32]) -> Result<(), String> {
+    if is == should {
+        Ok(())
+    } else {
+        Err(format!("{what}: the library says {is:?}, document 01 {should:?} (4294967295: not reported)"))
+    }
+}
+
+fn words(is: &[u32], should: &[u32]) -> Result<(), String> {
+    if is == should {
+        return Ok(());
+    }
+    let at = (0..should.len()).find(|&i| is[i] != should[i]).unwrap();
+    Err(format!("word {at} of the table ({}): the library has {}, document 01 {}", place(at), is[at], should[at]))
+}
+
+/// The place of a word in document 01's terms.
+fn place(at: usize) -> String {
+    match at {
+        0 => "the count".into(),
+        1..=256 => format!("summary of node {}, entry {}", (at - 1) / 16, (at - 1) % 16),
+        257..=512 => format!("acknowledgements of node {}, entry {}", (at - 257) / 16, (at - 257) % 16),
+        513..=528 => format!("held number of node {}", at - 513),
+        _ => format!("log of node {}, row {}, word {}", (at - 529) / 256, (at - 529) % 256 / 4, (at - 529) % 4),
+    }
+}
+
+/// Runs a scenario on the model and the library; the answer is the event that differs and how.
+pub fn compare(library: &mut Library, scenario: &Scenario, reached: &mut Reached) -> Result<(), (usize, String)> {
+    let mut run = Run { table: Table::from_words(&scenario.words), expected: scenario.words.clone(), account: None, freed: [false; 256], reached };
+    let mut calls = Calls::default();
+    calls.table(&scenario.words);
+    for (batch, events) in scenario.events.chunks(BATCH).enumerate() {
+        for event in events {
+            match *event {
+                Event::Fresh(n) => calls.fresh(n),
+                Event::Step(action) => calls.step(action),
+                Event::Poke(index, value) => calls.poke(index, value),
+                Event::CountNode(node) => calls.count_node(node),
+                Event::Look { node, origin, index, word } => calls.look(node, origin, index, word),
+            }
+        }
+        let Some(mut answers) = library.run(&calls) else { return Err((batch * BATCH, "the library was killed".into())) };
+        for (i, event) in events.iter().enumerate() {
+            run.event(*event, &mut answers).map_err(|fault| (batch * BATCH + i, fault))?;
+        }
+        run.demand_3_everywhere().map_err(|fault| (batch * BATCH + events.len() - 1, fault))?;
+        assert!(answers.done());
+        calls.clear();
+    }
+    Ok(())
+}
+
+/// Runs the scenario of a seed; a mismatch is told with the shortest failing list of steps.
+pub fn seed(library: &mut Library, seed: u64, reached: &mut Reached) -> Result<usize, String> {
+    let scenario = make(seed);
+    let Err((at, _)) = compare(library, &scenario, reached) else {
+        return Ok(scenario.events.iter().filter(|event| matches!(event, Event::Step(_))).count());
+    };
+    let mut nowhere = Reached::default();
+    let mut fails = |events: &[Event]| {
+        let tried = Scenario { words: scenario.words.clone(), events: events.to_vec() };
+        compare(library, &tried, &mut nowhere).is_err()
+    };
+    let events = shortest(&scenario.events[..=at], &mut fails, &smaller);
+    let last = Scenario { words: scenario.words.clone(), events: events.clone() };
+    let fault = compare(library, &last, &mut nowhere).unwrap_err().1;
+    let mut text = format!("seed {seed}: {fault}\nthe shortest failing list, of {} events:\n", scenario.events.len());
+    if !matches!(events[0], Event::Fresh(_)) {
+        text += &format!("  (on the table of {} words that this seed starts from, count {})\n", scenario.words.len(), scenario.words.first().unwrap_or(&0));
+    }
+    events.iter().for_each(|event| text += &format!("  {}\n", written(*event)));
+    Err(text)
+}
+
+/// Events that are simpler than this one.
+fn smaller(event: &Event) -> Vec<Event> {
+    let less = |x: u32| [0, 1, x / 2, x.saturating_sub(1)].into_iter().filter(move |&y| y < x);
+    match *event {
+        Event::Fresh(n) => less(n).map(Event::Fresh).collect(),
+        Event::Step(Action::Write { node, timestamp, block, verdict }) => {
+            let mut all: Vec<Event> = less(timestamp).map(|timestamp| Event::Step(Action::Write { node, timestamp, block, verdict })).collect();
+            all.extend(less(block).map(|block| Event::Step(Action::Write { node, timestamp, block, verdict })));
+            all.extend(less(verdict.into()).map(|v| Event::Step(Action::Write { node, timestamp, block, verdict: v as u8 })));
+            all
+        }
+        Event::Step(Action::Session { a, b, ca, cb, outcome }) => {
+            let mut all: Vec<Event> = less(ca).map(|ca| Event::Step(Action::Session { a, b, ca, cb, outcome })).collect();
+            all.extend(less(cb).map(|cb| Event::Step(Action::Session { a, b, ca, cb, outcome })));
+            all
+        }
+        _ => Vec::new(),
+    }
+}
+
+fn written(event: Event) -> String {
+    match event {
+        Event::Fresh(n) => format!("fresh {n}"),
+        Event::Step(Action::Write { node, timestamp, block, verdict }) => format!("write node {node} timestamp {timestamp} block {block} verdict {verdict}"),
+        Event::Step(Action::Session { a, b, ca, cb, outcome }) => format!("session {a} with {b} readings {ca} and {cb} outcome {outcome}"),
+        Event::Step(Action::Purge { node }) => format!("purge node {node}"),
+        Event::Poke(index, value) => format!("word {index} ({}) set to {value}", place(index as usize)),
+        Event::CountNode(node) => format!("count of node {node}"),
+        Event::Look { node, origin, index, word } => format!("look at node {node}, entry {origin}, record {index}, word {word}"),
+    }
+}
+
+/// The steps of a seed's scenario that came after a making of a fresh table, with its count: for journals.
+pub fn steps_of(seed: u64) -> (u32, Vec<Action>) {
+    let scenario = make(seed);
+    let n = match scenario.events[0] {
+        Event::Fresh(n) => n,
+        _ => scenario.words.first().copied().unwrap_or(2).clamp(2, 16),
+    };
+    let steps = scenario.events.iter().filter_map(|e| if let Event::Step(action) = e { Some(*action) } else { None }).collect();
+    (n, steps)
+}
+
+/// The most records that a log holds, for the situations.
+pub const MOST: u32 = ROOM as u32;
