@@ -70,8 +70,11 @@ int main(void) {
     }
     node_counts(POLLENCART_TABLE, 0, 0, 0, 0, 0);
     for (uint32_t node = 3; node < 256; node++) node_counts(POLLENCART_TABLE, (uint8_t)node, POLLENCART_NODE, 0, 0, node);
-    for (size_t len = POLLENCART_TABLE - 2; len < POLLENCART_TABLE + 3; len++)
-        if (len != POLLENCART_TABLE) node_counts(len, 1, POLLENCART_UNSOUND, 0, 0, (unsigned long)len), node_counts(len, 3, POLLENCART_UNSOUND, 0, 0, (unsigned long)len);
+    for (size_t len = POLLENCART_TABLE - 2; len < POLLENCART_TABLE + 3; len++) {
+        if (len == POLLENCART_TABLE) continue;
+        node_counts(len, 1, POLLENCART_UNSOUND, 0, 0, (unsigned long)len);
+        node_counts(len, 3, POLLENCART_UNSOUND, 0, 0, (unsigned long)len);
+    }
     lent[0] = 17;
     node_counts(POLLENCART_TABLE, 1, POLLENCART_UNSOUND, 0, 0, 17);
     printf("counts from C: %lu checks, %lu failed\n", checks, failures);

@@ -80,13 +80,13 @@ fn finish(
     requires { ⌜ Sides (now t) n p q mine theirs «mine_held» «theirs_held» × (overfull true (begun n mine (node (now t) p .log)) (begun n theirs (heldLog (now t) q «theirs_held»)) ≡ false) ⌝ }
     ensures { λ r. ⌜ (r ≡ length (newer (take n (mine .summary)) (heldLog (now (t .entry)) q «theirs_held»))) × (now (t .exit) ≡ putNode p (finished (begun n mine (node (now (t .entry)) p .log)) (begun n theirs (heldLog (now (t .entry)) q «theirs_held»))) (now (t .entry))) ⌝ }
 {
-    let summary = mine.summary;
+    let known = mine.summary;
     let taken = carry(
         t,
         layout::log_at(q),
         theirs_held,
         layout::log_at(p) + 4 * mine_held,
-        &summary[0..n],
+        &known[0..n],
     );
     put_word(t, layout::held_at(p), (mine_held + taken) as u32);
     raise_rows(t, n, p, mine, theirs);
