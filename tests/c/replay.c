@@ -83,6 +83,6 @@ int main(void) {
     memset(journal, '\n', sizeof journal);
     replays("the longest journal", POLLENCART_JOURNAL, TABLE, POLLENCART_TEXT, "BAD 1 11\n", 1);
     replays("a journal one byte too long", POLLENCART_JOURNAL + 1, TABLE, POLLENCART_TEXT, "BAD 0 16\n", 1);
-    printf("replay: %lu checks, %lu failures\n", checks, failures);
+    printf("replay from C: %lu checks, %lu failed\n", checks, failures);
     return failures != 0;
 }
