@@ -118,9 +118,10 @@ uint32_t pollencart_count_node(const uint32_t *table, size_t table_len, uint8_t 
  * text. Otherwise there is a text, never empty, and it does not depend on what the table held:
  *   - the journal came to its end: N, STEPS and REFUSED, then a line a node. A refused step is counted and passed over.
  *     The table is a fresh one after all steps, sound.
- *   - a line was refused: `BAD line number` with 11 to 15 as above, or 14 for bytes that no LF ends; an empty journal gives BAD 1 15.
- *     Was it the first line, no word of the table is changed, sound or not. Was it a later one, the table is a fresh one
- *     after the steps before that line, sound.
+ *   - a line was refused: `BAD line number`, the number 11, 12, 13 or 15 as above, 14 for bytes that no LF ends, and 15 also for
+ *     a first line that is no start, for a later one that is, and for an empty journal (BAD 1 15).
+ *     If it was the first line, no word of the table is changed, sound or not; if a later one, the table is a fresh one after
+ *     the steps before that line, sound.
  *   - journal_len is above POLLENCART_JOURNAL: `BAD 0 16`. Its bytes play no part, no word of the table is changed. */
 #define POLLENCART_TEXT 12288    /* the bytes that out must have at least */
 #define POLLENCART_JOURNAL 65536 /* the bytes that a journal may have at most */
