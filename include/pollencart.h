@@ -114,7 +114,7 @@ uint32_t pollencart_count_node(const uint32_t *table, size_t table_len, uint8_t 
 /* The replay: reads a journal, runs its steps on a fresh table and puts the text that the program `replay` prints at the beginning
  * of out. Answers the number of bytes written, 0 to POLLENCART_TEXT; no zero byte ends them, and no byte after them is changed.
  *
- * Answers 0 and changes nothing if table_len is not 4625 (the words of a table) or out_len is below POLLENCART_TEXT, enough for every
+ * Answers 0 and changes nothing if table_len is not POLLENCART_TABLE or out_len is below POLLENCART_TEXT, which is enough for every
  * text. Otherwise there is a text, never empty, and it does not depend on what the table held:
  *   - the journal came to its end: N, STEPS and REFUSED, then a line a node. A refused step is counted and passed over.
  *     The table is a fresh one after all steps, sound.
