@@ -65,7 +65,7 @@ fn act(t: &mut [u32], name: &[u8], action: Action) {
 }
 
 // A write of block 16 with verdict 20.
-pub fn write(t: &mut [u32], name: &[u8], node: u8, timestamp: u32) {
+pub(crate) fn write(t: &mut [u32], name: &[u8], node: u8, timestamp: u32) {
     let action = Action::Write {
         node,
         timestamp,
@@ -76,7 +76,7 @@ pub fn write(t: &mut [u32], name: &[u8], node: u8, timestamp: u32) {
 }
 
 // A session of 0 with 1.
-pub fn session(t: &mut [u32], name: &[u8], ca: u32, cb: u32, outcome: u8) {
+pub(crate) fn session(t: &mut [u32], name: &[u8], ca: u32, cb: u32, outcome: u8) {
     let action = Action::Session {
         a: 0,
         b: 1,
@@ -88,12 +88,12 @@ pub fn session(t: &mut [u32], name: &[u8], ca: u32, cb: u32, outcome: u8) {
 }
 
 // A purge.
-pub fn purge(t: &mut [u32], name: &[u8], node: u8) {
+pub(crate) fn purge(t: &mut [u32], name: &[u8], node: u8) {
     act(t, name, Action::Purge { node });
 }
 
 // Making a table of n nodes of these words.
-pub fn fresh(t: &mut [u32], name: &[u8], n: u32) {
+pub(crate) fn fresh(t: &mut [u32], name: &[u8], n: u32) {
     let before = digest(t);
     let number = table::fresh(t, n);
     line(name, number, 0, 0, word(t, layout::held_at(0)));
@@ -112,7 +112,7 @@ fn number_of(answer: Line) -> u32 {
 }
 
 // A single line, given to the frame reader.
-pub fn frame(name: &[u8]) {
+pub(crate) fn frame(name: &[u8]) {
     io::write_all(1, b"line ");
     io::write_all(1, name);
     field(b": refusal ", number_of(frames::read_line(name, 1)));
