@@ -3,9 +3,10 @@ ghost use mathlib.Core.Path.{_≡_};
 ghost use Prim.Native.Nat.{_+_, _-_, _*_, _≤_, _<_};
 ghost use lib.ListN.{length, replicate};
 ghost use Rattle.meaning.specs.declared.Action.{Action};
-ghost use Rattle.meaning.specs.Rows.{least, above, words};
+ghost use Rattle.meaning.specs.Rows.{above, words};
 ghost use Rattle.meaning.specs.Table.{tableWords, nodesMost, logMost, logAt, count, node, place, putNode};
-ghost use Rattle.meaning.specs.Steps.{reply, after};
+ghost use Rattle.meaning.specs.Node.{purged};
+ghost use Rattle.meaning.specs.Steps.{limit, reply, after};
 ghost use Rattle.meaning.proofs.TableLaws.{Sound};
 use super::look::held_of;
 use super::look::nodes_of;
@@ -18,7 +19,7 @@ use rows::row::put_word;
 // The smallest entry of node p's acknowledgement row, over its n entries.
 fn limit_of(t: &[u32], p: usize, n: usize) -> u32
     requires { ⌜ Sound (now t) × (p < count (now t)) × (n ≡ count (now t)) ⌝ }
-    ensures { λ r. ⌜ r ≡ least (node (now (t .entry)) p .acks) ⌝ }
+    ensures { λ r. ⌜ r ≡ limit (now (t .entry)) p ⌝ }
 {
     let at = layout::acks_at(p);
     let end = at + n;
@@ -49,7 +50,7 @@ fn clear_rows(t: &mut [u32], p: usize, left: usize, held: usize)
 // The records above the limit are left, in their order, the rows behind them zero; the held number is theirs: how many they are.
 fn drop_rows(t: &mut [u32], p: usize, held: usize, limit: u32) -> usize
     requires { ⌜ Sound (now t) × (p < count (now t)) × (held ≡ Rattle.meaning.specs.Table.held (now t) p) × (held ≤ logMost) ⌝ }
-    ensures { λ r. ⌜ (r ≡ length (above limit (node (now (t .entry)) p .log))) × (r ≤ held) × (now (t .exit) ≡ putNode p (record { summary = node (now (t .entry)) p .summary; acks = node (now (t .entry)) p .acks; log = above limit (node (now (t .entry)) p .log) }) (now (t .entry))) ⌝ }
+    ensures { λ r. ⌜ (r ≡ length (above limit (node (now (t .entry)) p .log))) × (r ≤ held) × (now (t .exit) ≡ putNode p (purged limit (node (now (t .entry)) p)) (now (t .entry))) ⌝ }
 {
     let left = close_log(t, p, held, limit);
     clear_rows(t, p, left, held);

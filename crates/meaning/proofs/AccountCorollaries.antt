@@ -14,7 +14,7 @@ use Rattle.meaning.specs.declared.Step.{Step}
 use Rattle.meaning.specs.Rows.{covers}
 use Rattle.meaning.specs.Table.{nodesMost, count, node, fresh}
 use Rattle.meaning.specs.Node.{purged}
-use Rattle.meaning.specs.Steps.{finishesA, finishesB, refusal}
+use Rattle.meaning.specs.Steps.{finishesA, finishesB, refusal, limit}
 use Rattle.meaning.specs.Frames.{widths, wide}
 use Rattle.meaning.specs.Journals.{afterAll}
 use Rattle.meaning.specs.Account.{has, lacking, Account, nothing, gains, gainsIf, noted, Run, noteIf, stepped, ran, run}
@@ -24,7 +24,7 @@ use Rattle.meaning.proofs.AccountInvariant.{log-written}
 use Rattle.meaning.proofs.AccountNodes.{purged-dropping}
 use Rattle.meaning.proofs.TableLaws.{Sound}
 use Rattle.meaning.proofs.StepLaws.{verdictOf, after-sound, fresh-sound}
-use Rattle.meaning.proofs.AccountTable.{Sure, sure-run}
+use Rattle.meaning.proofs.AccountTable.{Sure, limit-low, sure-run}
 use Rattle.meaning.proofs.Demand3.{demand3}
 
 module _ (n : ℕ) (lo : 2 ≤ n) (hi : n ≤ nodesMost) (ss : List Step) where
@@ -41,12 +41,12 @@ module _ (n : ℕ) (lo : 2 ≤ n) (hi : n ≤ nodesMost) (ss : List Step) where
     held-written h = log-written n _ (node (run n ss .table) p .summary) (node (run n ss .table) p .log) (run n ss .account .of p) r (sure .whole .holds p below .kept) h
 
     -- a record that a purge of p removes is in every node's account
-    pub purge-known : has r (node (run n ss .table) p .log) ≡ true → has r (purged (node (run n ss .table) p) .log) ≡ false → (q : ℕ) → q < n →
+    pub purge-known : has r (node (run n ss .table) p .log) ≡ true → has r (purged (limit (run n ss .table) p) (node (run n ss .table) p) .log) ≡ false → (q : ℕ) → q < n →
         has r (run n ss .account .of q) ≡ true
     purge-known h gone q j =
         let w = held-written h in
         let k = sure .whole .holds p below in
-        let c = purged-dropping n _ (node (run n ss .table) p) (run n ss .account .of p) (sure .whole .stamped) (k .kept) (k .acked) .gone r h gone q j in
+        let c = purged-dropping n _ (limit (run n ss .table) p) (node (run n ss .table) p) (run n ss .account .of p) (sure .whole .stamped) (k .kept) (k .acked) (limit-low _ p n (k .acked .wide)) .gone r h gone q j in
         sure .whole .holds q j .kept .exact r ∙ and-both (has r (run n ss .account .written)) (covers (node (run n ss .table) q .summary) r) w c
 
   -- a written record is held in its writer's log, or it is in every node's account

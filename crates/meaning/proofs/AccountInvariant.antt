@@ -357,7 +357,3 @@ lacking-newer n w s t log theirs l m mine other =
     let b = and-left (has r (w .written)) (covers t r) (sym a ∙ h) in
     let c = mine .exact r in
     cc)
-
--- What is at most the smallest acknowledgement is at most every entry of every summary.
-pub acked-least : (n : ℕ) (w : World) (acks : List ℕ) → Acked n w acks → (q o : ℕ) → q < n → o < n → least acks ≤ entry (w .summary q) o
-acked-least n w acks k q o h j = omega (arith, least-le acks q (omega (arith, k .wide)), k .reached q o h j)

@@ -1,7 +1,7 @@
 -- What document 01's actions do to one node is what the account allows: `opened`, `finished`, `wrote` and `purged` have the facts that the invariant
 -- of demand 3 names. A wrong action is refused here.
 use mathlib.Core.Path.{_≡_, refl, sym, _∙_}
-use mathlib.Core.Bool.{true, false}
+use mathlib.Core.Bool.{true, false, not, _&&_}
 use mathlib.Core.List.{List, _++_, Sublistᴰ, Sublistᴰ·append}
 use Prim.Native.Nat.{ℕ, _≤_, _<_}
 use native.Mathlib.Omega.{arith}
@@ -10,9 +10,9 @@ use lib.Seq.{getD-set-same, getD-set-other}
 use lib.Dec.{eqb}
 use borrow.Author.Tests.{eqb-true, eqb-false}
 use Rattle.meaning.specs.declared.Record.{Record}
-use Rattle.meaning.specs.Rows.{least, newer}
+use Rattle.meaning.specs.Rows.{least}
 use Rattle.meaning.specs.Table.{Node}
-use Rattle.meaning.specs.Node.{own, wrote, opened, finished, purged}
+use Rattle.meaning.specs.Node.{own, wrote, opened, sent, finished, purged}
 use Rattle.meaning.specs.Account.{has, lacking}
 use Rattle.meaning.proofs.RowLaws.{length-raise}
 use Rattle.meaning.proofs.AccountLaws.{by-test, has-append, has-newer, newer-sublist, above-sub, above-gone, entry, least-le, raise-entry, le-covers}
@@ -29,7 +29,6 @@ use Rattle.meaning.proofs.AccountInvariant.{
   Dropping,
   lacking-newer,
   log-written,
-  acked-least,
 }
 
 -- an entry that is set to no less never goes down
@@ -82,24 +81,34 @@ finished-acks n mine theirs a b =
 
 module _ (n : ℕ) (w : World) (mine theirs : Node) (l m : List Record) (h : Kept n w (mine .summary) (mine .log) l)
     (k : Kept n w (theirs .summary) (theirs .log) m) where
+  -- What is sent is what the partner's log holds and the own account lacks, no more and no less, and in the order of the partner's account.
+  pub sent-lacked : (r : Record) → has r (sent mine theirs) ≡ has r (theirs .log) && not (has r l)
+  sent-lacked r =
+      let c = has-newer r (mine .summary) (theirs .log) in
+      let e = h .exact r in
+      by-test (has r (theirs .log))
+      (λ a. let d = log-written n w (theirs .summary) (theirs .log) m r k a in cc)
+      (λ a. cc)
+
+  sent-order : Sublistᴰ (sent mine theirs) (lacking l m)
+  sent-order =
+      rw (lacking-newer n w (mine .summary) (theirs .summary) (mine .log) (theirs .log) l m h k)
+      (newer-sublist (mine .summary) (k .less))
+
   finished-takes : (r : Record) → has r (theirs .log) ≡ true → has r l ≡ false → has r (finished mine theirs .log) ≡ true
   unfolding finished
   finished-takes r a f =
-      let b = has-append r (mine .log) (newer (mine .summary) (theirs .log)) in
-      let c = has-newer r (mine .summary) (theirs .log) in
-      let d = log-written n w (theirs .summary) (theirs .log) m r k a in
-      let e = h .exact r in
+      let b = has-append r (mine .log) (sent mine theirs) in
+      let c = sent-lacked r in
       by-test (has r (mine .log)) (λ z. cc) (λ z. cc)
 
   finished-keeps : (r : Record) → has r (mine .log) ≡ true → has r (finished mine theirs .log) ≡ true
   unfolding finished
-  finished-keeps r a = let b = has-append r (mine .log) (newer (mine .summary) (theirs .log)) in cc
+  finished-keeps r a = let b = has-append r (mine .log) (sent mine theirs) in cc
 
   finished-order : Sublistᴰ (finished mine theirs .log) (l ++ lacking l m)
   unfolding finished
-  finished-order =
-      rw (lacking-newer n w (mine .summary) (theirs .summary) (mine .log) (theirs .log) l m h k)
-      (Sublistᴰ·append (h .less) (newer-sublist (mine .summary) (k .less)))
+  finished-order = Sublistᴰ·append (h .less) sent-order
 
   pub finished-taking : Taking (mine .log) (theirs .log) (finished mine theirs .log) l m
   finished-taking = record { takes = finished-takes; keeps = finished-keeps; order = finished-order }
@@ -116,15 +125,15 @@ wrote-writing n p t b v x below long =
       last = refl;
     }
 
--- Purging: what leaves is at most every acknowledgement, so every summary covers it.
-pub purged-dropping : (n : ℕ) (w : World) (x : Node) (l : List Record) → Stamped n w → Kept n w (x .summary) (x .log) l → Acked n w (x .acks) →
-    Dropping n w (x .log) (purged x .log)
+-- Purging by a limit that is at most every acknowledgement: every summary covers what leaves.
+pub purged-dropping : (n : ℕ) (w : World) (limit : ℕ) (x : Node) (l : List Record) → Stamped n w → Kept n w (x .summary) (x .log) l → Acked n w (x .acks) →
+    ((q : ℕ) → q < n → limit ≤ entry (x .acks) q) → Dropping n w (x .log) (purged limit x .log)
 unfolding purged
-purged-dropping n w x l stamped k acked =
+purged-dropping n w limit x l stamped k acked low =
     record {
       gone = λ r h i q j.
           let o = stamped .origin r (log-written n w (x .summary) (x .log) l r k h) in
           let t = above-gone _ (x .log) r h i in
-          le-covers (w .summary q) r (omega (arith, t, acked-least n w (x .acks) acked q (r .origin) j o));
+          le-covers (w .summary q) r (omega (arith, t, low q j, acked .reached q (r .origin) j o));
       order = above-sub _ (x .log);
     }

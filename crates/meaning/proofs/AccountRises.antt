@@ -11,7 +11,7 @@ use Rattle.meaning.specs.declared.Step.{Step}
 use Rattle.meaning.specs.Rows.{least}
 use Rattle.meaning.specs.Table.{Node, nodesMost, count, node}
 use Rattle.meaning.specs.Node.{own, wrote, opened, finished, ended, purged}
-use Rattle.meaning.specs.Steps.{finishesA, finishesB, refusal, acted}
+use Rattle.meaning.specs.Steps.{finishesA, finishesB, refusal, limit, acted}
 use Rattle.meaning.specs.Account.{Account, Run, stepped, ran, run}
 use Rattle.meaning.proofs.AccountLaws.{entry, le-least, raise-entry}
 use Rattle.meaning.proofs.TableLaws.{node-shaped}
@@ -50,9 +50,9 @@ rises-wrote : (p c b v : ℕ) (x : Node) → p < length (x .summary) → own p x
 unfolding wrote own
 rises-wrote p c b v x below later = record { summary = λ o. set-up (x .summary) p c o below (omega arith); acks = λ o. omega arith }
 
-rises-purged : (x : Node) → Rises x (purged x)
+rises-purged : (limit : ℕ) (x : Node) → Rises x (purged limit x)
 unfolding purged
-rises-purged x = record { summary = λ o. omega arith; acks = λ o. omega arith }
+rises-purged limit x = record { summary = λ o. omega arith; acks = λ o. omega arith }
 
 -- opening raises the own acknowledgement, since it was at most every entry of the summary
 rises-opened : (n p c : ℕ) (nodes : ℕ → Node) (x : Account) → p < n → own p (nodes p) ≤ c → Whole n nodes x → Rises (nodes p) (opened p c (nodes p))
@@ -118,10 +118,10 @@ rises-acted t (Session a b ca cb o) x k w =
 rises-acted t (Purge p) x k w =
     let f = purge-facts t p k in
     let s = k .isSound in
-    let fits = purged-shaped (count t) (node t p) (node-shaped t s p f) in
+    let fits = purged-shaped (count t) (node t p) (node-shaped t s p f) (limit t p) in
     each (λ (q : ℕ). Rises (node t q) (node (acted t (Purge p)) q)) (count t) p
-    (rises-at (node t p) (node (acted t (Purge p)) p) (purged (node t p)) (one-same t s p f (purged (node t p)) fits) (rises-purged (node t p)))
-    (λ q h ne. rises-at (node t q) (node (acted t (Purge p)) q) (node t q) (one-other t s p f (purged (node t p)) fits q h ne) (rises-refl (node t q)))
+    (rises-at (node t p) (node (acted t (Purge p)) p) (purged (limit t p) (node t p)) (one-same t s p f (purged (limit t p) (node t p)) fits) (rises-purged (limit t p) (node t p)))
+    (λ q h ne. rises-at (node t q) (node (acted t (Purge p)) q) (node t q) (one-other t s p f (purged (limit t p) (node t p)) fits q h ne) (rises-refl (node t q)))
 
 rises-stepped-at : (n : ℕ) (x : Run) (s : Step) (k : ℕ) → refusal (x .table) (s .action) ≡ k → Sure n x → (q : ℕ) → q < n →
     Rises (node (x .table) q) (node (stepped x s .table) q)

@@ -166,8 +166,8 @@ module _ (n : ℕ) (nodes nodes′ : ℕ → Node) (x : Account) (p c b v : ℕ)
 
 -- Purge ----------------------------------------------------------------------------------------------------------------------------------
 
-module _ (n : ℕ) (nodes nodes′ : ℕ → Node) (x : Account) (p : ℕ) (below : p < n)
-    (here : nodes′ p ≡ purged (nodes p)) (there : (q : ℕ) → q < n → (q ≡ p → ⊥) → nodes′ q ≡ nodes q) (k : Whole n nodes x) where
+module _ (n : ℕ) (nodes nodes′ : ℕ → Node) (x : Account) (p limit : ℕ) (below : p < n) (low : (q : ℕ) → q < n → limit ≤ entry (nodes p .acks) q)
+    (here : nodes′ p ≡ purged limit (nodes p)) (there : (q : ℕ) → q < n → (q ≡ p → ⊥) → nodes′ q ≡ nodes q) (k : Whole n nodes x) where
   same-summary : (q : ℕ) → q < n → nodes′ q .summary ≡ nodes q .summary
   unfolding purged
   same-summary = each (λ (q : ℕ). nodes′ q .summary ≡ nodes q .summary) n p (ap (λ (y : Node). y .summary) here) (λ q h ne. ap (λ (y : Node). y .summary) (there q h ne))
@@ -197,11 +197,11 @@ module _ (n : ℕ) (nodes nodes′ : ℕ → Node) (x : Account) (p : ℕ) (belo
         stamped = purge-stamped;
         holds =
             each (λ (q : ℕ). Holds n (world nodes′ x) (nodes′ q) (x .of q)) n p
-            (holds-at n (world nodes′ x) (nodes′ p) (purged (nodes p)) (x .of p) (x .of p) here refl
+            (holds-at n (world nodes′ x) (nodes′ p) (purged limit (nodes p)) (x .of p) (x .of p) here refl
             (record {
               kept =
-                  kept-dropping n (world nodes′ x) (nodes p .summary) (nodes p .log) (purged (nodes p) .log) (x .of p)
-                  (purged-dropping n (world nodes′ x) (nodes p) (x .of p) purge-stamped (purge-holds .kept) (purge-holds .acked)) (purge-holds .kept);
+                  kept-dropping n (world nodes′ x) (nodes p .summary) (nodes p .log) (purged limit (nodes p) .log) (x .of p)
+                  (purged-dropping n (world nodes′ x) limit (nodes p) (x .of p) purge-stamped (purge-holds .kept) (purge-holds .acked) low) (purge-holds .kept);
               acked = purge-holds .acked;
             }))
             (λ q h ne.

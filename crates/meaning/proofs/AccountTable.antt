@@ -4,13 +4,14 @@ use mathlib.Core.Bool.{false}
 use mathlib.Core.List.{List, [], _∷_, Sublistᴰ·slnil, Pairwise·nil}
 use Prim.Native.Nat.{ℕ, zero, suc, _+_, _*_, _≤_, _<_}
 use native.Mathlib.Omega.{arith}
+use lib.ListN.{length}
 use Rattle.meaning.specs.declared.Record.{Record}
 use Rattle.meaning.specs.declared.Action.{Action}
 use Rattle.meaning.specs.declared.Action.the-variants.{Write, Session, Purge}
 use Rattle.meaning.specs.declared.Step.{Step}
 use Rattle.meaning.specs.Table.{nodesMost, summaryAt, acksAt, count, node, fresh}
 use Rattle.meaning.specs.Node.{wrote, purged}
-use Rattle.meaning.specs.Steps.{refusal, acted}
+use Rattle.meaning.specs.Steps.{limit, refusal, acted}
 use Rattle.meaning.specs.Account.{has, Account, nothing, noted, Run, noteIf, stepped, ran, run}
 use Rattle.meaning.proofs.PlaceLaws.{getD-part}
 use Rattle.meaning.proofs.TableLaws.{node-shaped}
@@ -35,7 +36,7 @@ use Rattle.meaning.proofs.StepLaws.{
   fresh-log,
   fresh-sound,
 }
-use Rattle.meaning.proofs.AccountLaws.{not-both, entry}
+use Rattle.meaning.proofs.AccountLaws.{not-both, entry, least-le}
 use Rattle.meaning.proofs.AccountSteps.{Whole, whole-write, whole-session, whole-purge}
 
 -- The table of a run has n nodes, and they have the invariant with the account beside them.
@@ -88,6 +89,11 @@ sure-fresh n lo hi =
 
 -- A step -------------------------------------------------------------------------------------------------------------------------------------
 
+-- what a purge goes by is at most every node's acknowledgement: a purge that asks fewer of them is refused here
+pub limit-low : (t : List ℕ) (p n : ℕ) → length (node t p .acks) ≡ n → (q : ℕ) → q < n → limit t p ≤ entry (node t p .acks) q
+unfolding limit
+limit-low t p n wide q h = omega (arith, least-le (node t p .acks) q (omega arith))
+
 whole-acted : (t : List ℕ) (a : Action) (x : Account) → Accepted t a → Whole (count t) (node t) x → Whole (count t) (node (acted t a)) (noted a x)
 unfolding acted
 whole-acted t (Write p c b v) x k w =
@@ -107,10 +113,10 @@ whole-acted t (Session a b ca cb o) x k w =
 whole-acted t (Purge p) x k w =
     let f = purge-facts t p k in
     let s = k .isSound in
-    let fits = purged-shaped (count t) (node t p) (node-shaped t s p f) in
-    whole-purge (count t) (node t) (node (acted t (Purge p))) x p f
-    (one-same t s p f (purged (node t p)) fits)
-    (one-other t s p f (purged (node t p)) fits) w
+    let fits = purged-shaped (count t) (node t p) (node-shaped t s p f) (limit t p) in
+    whole-purge (count t) (node t) (node (acted t (Purge p))) x p (limit t p) f (limit-low t p (count t) (node-shaped t s p f .acksLong))
+    (one-same t s p f (purged (limit t p) (node t p)) fits)
+    (one-other t s p f (purged (limit t p) (node t p)) fits) w
 
 -- what a step leaves of a run, accepted or refused
 pub stepped-accepted : (x : Run) (s : Step) → refusal (x .table) (s .action) ≡ 0 →

@@ -11,7 +11,7 @@ use Rattle.meaning.specs.declared.Action.the-variants.{Write, Session, P
 use Rattle.meaning.specs.Rows.{given}
 use Rattle.meaning.specs.Table.{Node, tableWords, nodesMost, logMost, summaryAt, acksAt, heldAt, logAt, count, node, putNode, sound, countRight}
 use Rattle.meaning.specs.Node.{wrote, purged}
-use Rattle.meaning.specs.Steps.{outcomeAbove, nodeAbsent, nodeTwice, clockBack, noRoom, refusal, acted, after}
+use Rattle.meaning.specs.Steps.{outcomeAbove, nodeAbsent, nodeTwice, clockBack, noRoom, refusal, limit, acted, after}
 use Rattle.meaning.specs.Frames.{allDigits, bytesOf, total, kinds, digitsOf, lineKind, lineFields, lineRefusal}
 use Rattle.meaning.proofs.TableLaws.{Sound, Shaped, node-shaped, put-word-away}
 use Rattle.meaning.proofs.StepLaws.{
@@ -74,7 +74,7 @@ acted-outside t (Session a b ca cb o) k i out =
     put-outside t s a (f .0) (sideA t a b ca cb o) (sideA-shaped t s a b ca cb o (f .0) (f .1) (f .2) (k .room)) i out
 acted-outside t (Purge p) k i out =
     let f = purge-facts t p k in
-    put-outside t (k .isSound) p f (purged (node t p)) (purged-shaped (count t) (node t p) (node-shaped t (k .isSound) p f)) i out
+    put-outside t (k .isSound) p f (purged (limit t p) (node t p)) (purged-shaped (count t) (node t p) (node-shaped t (k .isSound) p f) (limit t p)) i out
 
 -- "Rows and entries at or beyond n take no part and are never changed by a step."
 pub after-outside : (t : List ℕ) (x : Action) (i : ℕ) → Outside (count t) i → getD (after t x) i 0 ≡ getD t i 0

@@ -205,13 +205,13 @@ module _ (t : List ℕ) (s : Sound t) (p : ℕ) (h : p < count t) where
       (limit k : ℕ) → k ≡ length (above limit (node t p .log)) →
       place (heldAt p) (k ∷ [])
       (place (logAt p + 4 * k) (replicate (4 * (held t p - k)) 0) (place (logAt p) (words (above limit (node t p .log))) t)) ≡
-      putNode p (record { summary = node t p .summary; acks = node t p .acks; log = above limit (node t p .log) }) t
-  unfolding putNode
+      putNode p (purged limit (node t p)) t
+  unfolding putNode purged
   purge-put limit k e =
       let l = long in
       let g = high in
       let r = room in
-      let x : Node = record { summary = node t p .summary; acks = node t p .acks; log = above limit (node t p .log) } in
+      let x : Node = purged limit (node t p) in
       let rs : List Record = above limit (node t p .log) in
       let z : List ℕ = replicate (4 * (held t p - k)) 0 in
       let lw = length-words rs in

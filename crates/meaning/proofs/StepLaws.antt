@@ -16,9 +16,9 @@ use Rattle.meaning.specs.declared.Reply.{Reply}
 use Rattle.meaning.specs.declared.Reply.the-variants.{Refused}
 use Rattle.meaning.specs.Rows.{given, keep, raise, least, newer, above, covers, records, unless}
 use Rattle.meaning.specs.Table.{Node, tableWords, nodesMost, logMost, countAt, heldAt, logAt, part, count, held, node, putNode, fresh, recordSound, sound}
-use Rattle.meaning.specs.Node.{own, wrote, opened, finished, ended, purged}
-use Rattle.meaning.specs.Steps.{finishesA, finishesB, outcomeAbove, nodeAbsent, nodeTwice, clockBack, overfull, noRoom, refusal, acted, reported, reply, after}
-use Rattle.meaning.proofs.RowLaws.{given-none, all, all-append, all-keep, length-keep, and-both, length-raise, length-records, records-take}
+use Rattle.meaning.specs.Node.{own, wrote, opened, sent, finished, ended, purged}
+use Rattle.meaning.specs.Steps.{finishesA, finishesB, outcomeAbove, nodeAbsent, nodeTwice, clockBack, overfull, noRoom, refusal, limit, acted, reported, reply, after}
+use Rattle.meaning.proofs.RowLaws.{given-none, all, all-append, all-keep, length-above, and-both, length-raise, length-records, records-take}
 use Rattle.meaning.proofs.TableLaws.{Sound, Shaped, sound-facts, facts-sound, sound-put, node-shaped, node-same, node-other, put-count, put-held-other, held-log}
 
 -- What an accepted step is known to meet
@@ -64,7 +64,7 @@ module _ (n : ℕ) (x : Node) (fits : Shaped n x) where
   opened-shaped p c =
       record {
         summaryLong = length-set (x .summary) p c ∙ fits .summaryLong;
-        acksLong = length-set (x .acks) p (least (set (x .summary) p c)) ∙ fits .acksLong;
+        acksLong = length-set (x .acks) p _ ∙ fits .acksLong;
         logShort = fits .logShort;
       }
 
@@ -74,10 +74,10 @@ module _ (n : ℕ) (x : Node) (fits : Shaped n x) where
       let l = length-append (x .log) (record { origin = p; timestamp = c; block = b; verdict = v } ∷ []) in
       record { summaryLong = length-set (x .summary) p c ∙ fits .summaryLong; acksLong = fits .acksLong; logShort = omega arith }
 
-  pub purged-shaped : Shaped n (purged x)
-  unfolding purged above
-  purged-shaped =
-      let l = length-keep (λ (r : Record). not (leb (r .timestamp) (least (x .acks)))) (x .log) in
+  pub purged-shaped : (limit : ℕ) → Shaped n (purged limit x)
+  unfolding purged
+  purged-shaped limit =
+      let l = length-above limit (x .log) in
       let s = fits .logShort in
       record { summaryLong = fits .summaryLong; acksLong = fits .acksLong; logShort = omega arith }
 
@@ -87,7 +87,7 @@ module _ (n : ℕ) (x : Node) (fits : Shaped n x) where
       record {
         summaryLong = length-raise (x .summary) (y .summary) n (fits .summaryLong) (fits′ .summaryLong);
         acksLong = length-raise (x .acks) (y .acks) n (fits .acksLong) (fits′ .acksLong);
-        logShort = ltb-false logMost (length (x .log ++ newer (x .summary) (y .log))) h;
+        logShort = ltb-false logMost _ h;
       }
   ended-shaped y fits′ false h = fits
 
@@ -103,17 +103,16 @@ wrote-right n x p c b v hp hv h =
     and-both (all (recordSound n) (x .log)) ((ltb p n && leb v 255) && true) h
     (and-true (ltb p n && leb v 255) ∙ and-both (ltb p n) (leb v 255) (lt-ltb p n hp) (le-leb v 255 hv))
 
-pub purged-right : (n : ℕ) (x : Node) → all (recordSound n) (x .log) ≡ true → all (recordSound n) (purged x .log) ≡ true
+pub purged-right : (n limit : ℕ) (x : Node) → all (recordSound n) (x .log) ≡ true → all (recordSound n) (purged limit x .log) ≡ true
 unfolding purged above
-purged-right n x h = all-keep (recordSound n) (λ (r : Record). not (leb (r .timestamp) (least (x .acks)))) (x .log) h
+purged-right n limit x h = all-keep (recordSound n) (λ (r : Record). not (leb (r .timestamp) limit)) (x .log) h
 
 pub ended-right :
     (n : ℕ) (x y : Node) (f : Bool) → all (recordSound n) (x .log) ≡ true → all (recordSound n) (y .log) ≡ true → all (recordSound n) (ended f x y .log) ≡ true
-unfolding finished newer
+unfolding finished newer above
 ended-right n x y true h g =
-    all-append (recordSound n) (x .log) (keep (λ (r : Record). not (covers (x .summary) r)) (y .log)) ∙
-    and-both (all (recordSound n) (x .log)) (all (recordSound n) (keep (λ (r : Record). not (covers (x .summary) r)) (y .log))) h
-    (all-keep (recordSound n) (λ (r : Record). not (covers (x .summary) r)) (y .log) g)
+    all-append (recordSound n) (x .log) (sent x y) ∙
+    and-both (all (recordSound n) (x .log)) (all (recordSound n) (sent x y)) h (all-keep (recordSound n) _ (y .log) g)
 ended-right n x y false h g = h
 
 -- The verdict that an action brings: a byte in every step that is made, since its field is as wide as in the frame
@@ -250,7 +249,7 @@ acted-sound t (Session a b ca cb o) hv k =
 acted-sound t (Purge p) hv k =
     let f = purge-facts t p k in
     let s = k .isSound in
-    sound-put t s p f (purged (node t p)) (purged-shaped (count t) (node t p) (node-shaped t s p f)) (purged-right (count t) (node t p) (s .right p f))
+    sound-put t s p f (purged (limit t p) (node t p)) (purged-shaped (count t) (node t p) (node-shaped t s p f) (limit t p)) (purged-right (count t) (limit t p) (node t p) (s .right p f))
 
 pub acted-count : (t : List ℕ) (x : Action) → Accepted t x → count (acted t x) ≡ count t
 unfolding acted
@@ -262,7 +261,7 @@ acted-count t (Session a b ca cb o) k =
     session-count t (k .isSound) a b ca cb o (f .0) (f .1) (f .2) (k .room)
 acted-count t (Purge p) k =
     let f = purge-facts t p k in
-    one-count t (k .isSound) p f (purged (node t p)) (purged-shaped (count t) (node t p) (node-shaped t (k .isSound) p f))
+    one-count t (k .isSound) p f (purged (limit t p) (node t p)) (purged-shaped (count t) (node t p) (node-shaped t (k .isSound) p f) (limit t p))
 
 -- and under every step at all
 after-sound-at : (t : List ℕ) (x : Action) → verdictOf x ≤ 255 → Sound t → (k : ℕ) → refusal t x ≡ k → Sound (after t x)
@@ -353,7 +352,7 @@ log-begins u q k l more e h =
     sym (records-take k (held u q) (part (logAt q) (4 * logMost) u) (omega arith)) ∙ ap (take k) e ∙ take-at l more k h
 
 abbrev pub taken : Bool → Node → Node → List Record
-taken true mine theirs = newer (mine .summary) (theirs .log)
+taken true mine theirs = sent mine theirs
 taken false mine theirs = []
 
 pub ended-log : (f : Bool) (x y : Node) → ended f x y .log ≡ x .log ++ taken f x y

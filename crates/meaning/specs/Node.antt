@@ -29,14 +29,18 @@ opened p reading x =
       log = x .log;
     }
 
--- "A side that finishes appends, in the partner's log order, those records the partner held at the start" that are newer than its own starting
--- summary. "It then takes, entry by entry, the greater of both starting summaries and the greater of both starting acknowledgement rows."
+-- what a side that finishes takes: "in the partner's log order, those records the partner held at the start" that are newer than its own starting summary
+abbrev pub sent : Node → Node → List Record
+sent mine theirs = newer (mine .summary) (theirs .log)
+
+-- "A side that finishes appends" them. "It then takes, entry by entry, the greater of both starting summaries and the greater of both starting
+-- acknowledgement rows."
 unfoldable pub finished : Node → Node → Node
 finished mine theirs =
     record {
       summary = raise (mine .summary) (theirs .summary);
       acks = raise (mine .acks) (theirs .acks);
-      log = mine .log ++ newer (mine .summary) (theirs .log);
+      log = mine .log ++ sent mine theirs;
     }
 
 -- "A side that doesn't finish keeps its starting values and takes no record."
@@ -44,6 +48,6 @@ abbrev pub ended : Bool → Node → Node → Node
 ended true mine theirs = finished mine theirs
 ended false mine theirs = mine
 
--- Purge: "Every held record whose timestamp is at most the smallest entry of p's acknowledgement row leaves."
-unfoldable pub purged : Node → Node
-purged x = record { summary = x .summary; acks = x .acks; log = above (least (x .acks)) (x .log) }
+-- Purge: "Every held record whose timestamp is at most" the limit "leaves."
+unfoldable pub purged : ℕ → Node → Node
+purged limit x = record { summary = x .summary; acks = x .acks; log = above limit (x .log) }

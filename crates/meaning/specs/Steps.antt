@@ -10,9 +10,9 @@ use Rattle.meaning.specs.declared.Action.the-variants.{Write, Session, P
 use Rattle.meaning.specs.declared.Step.{Step}
 use Rattle.meaning.specs.declared.Reply.{Reply}
 use Rattle.meaning.specs.declared.Reply.the-variants.{Written, Carried, Purged, Refused}
-use Rattle.meaning.specs.Rows.{given, unless, newer}
+use Rattle.meaning.specs.Rows.{given, unless, least}
 use Rattle.meaning.specs.Table.{Node, logMost, count, node, putNode, sound}
-use Rattle.meaning.specs.Node.{own, wrote, opened, finished, ended, purged}
+use Rattle.meaning.specs.Node.{own, wrote, opened, sent, finished, ended, purged}
 
 -- "outcome 0 finishes neither side, 1 only a, 2 only b, 3 both"
 abbrev pub finishesA : ℕ → Bool
@@ -67,24 +67,28 @@ refusal t x =
     (given (clockBack t x) 5
     (given (noRoom t x) 6 0)))))
 
+-- what a purge goes by: "the smallest entry of p's acknowledgement row"
+unfoldable pub limit : List ℕ → ℕ → ℕ
+limit t p = least (node t p .acks)
+
 -- The words that an accepted action leaves. Both sides of a session work from the starting values.
 unfoldable pub acted : List ℕ → Action → List ℕ
 acted t (Write p c b v) = putNode p (wrote p c b v (node t p)) t
 acted t (Session a b ca cb o) =
     putNode b (ended (finishesB o) (opened b cb (node t b)) (opened a ca (node t a)))
     (putNode a (ended (finishesA o) (opened a ca (node t a)) (opened b cb (node t b))) t)
-acted t (Purge p) = putNode p (purged (node t p)) t
+acted t (Purge p) = putNode p (purged (limit t p) (node t p)) t
 
 -- "how many records it carried to each side (0 for a side that didn't finish)"
 abbrev pub carried : Bool → Node → Node → ℕ
-carried finishes mine theirs = cond finishes (length (newer (mine .summary) (theirs .log))) 0
+carried finishes mine theirs = cond finishes (length (sent mine theirs)) 0
 
 unfoldable pub reported : List ℕ → Action → Reply
 reported t (Write p c b v) = Written
 reported t (Session a b ca cb o) =
     Carried (carried (finishesA o) (opened a ca (node t a)) (opened b cb (node t b)))
     (carried (finishesB o) (opened b cb (node t b)) (opened a ca (node t a)))
-reported t (Purge p) = Purged (length (node t p .log) - length (purged (node t p) .log))
+reported t (Purge p) = Purged (length (node t p .log) - length (purged (limit t p) (node t p) .log))
 
 -- A refusal "reports zero counts and changes no word".
 abbrev pub replied : ℕ → Reply → Reply

@@ -5,6 +5,7 @@ use mathlib.Core.List.{List, [], _∷_}
 use lib.ListN.{length, replicate}
 use Rattle.meaning.specs.declared.Record.{Record}
 use Rattle.meaning.specs.Rows.{above, words}
+use Rattle.meaning.specs.Node.{purged}
 use Rattle.meaning.specs.Table.{Node, count, held, node, place, putNode, logAt, heldAt}
 use Rattle.meaning.proofs.TableLaws.{Sound}
 use Rattle.meaning.proofs.PutLaws.{purge-put}
@@ -21,7 +22,7 @@ use Rattle.actions.proofs.purge.close_log.Reads as close-log-reads
 whole :
     (t : List ℕ) (s : Sound t) (p : ℕ) (h : p < count t) (k limit n at : ℕ) (u v w : List ℕ) → k ≡ held t p → at ≡ heldAt p → n ≡ length (above limit (node t p .log)) →
     u ≡ place (logAt p) (words (above limit (node t p .log))) t → v ≡ place (logAt p + 4 * n) (replicate (4 * (k - n)) 0) u → w ≡ place at (n ∷ []) v →
-    w ≡ putNode p (record { summary = node t p .summary; acks = node t p .acks; log = above limit (node t p .log) }) t
+    w ≡ putNode p (purged limit (node t p)) t
 whole t s p h k limit n at u v w ek ea en eu ev ew =
     ew ∙ ap₂ (λ (a : ℕ) (x : List ℕ). place a (n ∷ []) x) ea
     (ev ∙ ap₂ (λ (m : ℕ) (x : List ℕ). place (logAt p + 4 * n) (replicate (4 * (m - n)) 0) x) ek eu) ∙

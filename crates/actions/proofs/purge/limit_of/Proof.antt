@@ -5,6 +5,7 @@ use native.Mathlib.Omega.{arith}
 use mathlib.Core.List.{List}
 use lib.ListN.{length, take, drop, length-take, length-drop}
 use Rattle.meaning.specs.Rows.{least}
+use Rattle.meaning.specs.Steps.{limit}
 use Rattle.meaning.specs.Table.{count, node, part, acksAt, tableWords, nodesMost}
 use Rattle.meaning.proofs.TableLaws.{Sound}
 use borrow.Author.Needs.{needs}
@@ -54,6 +55,7 @@ least-of-requires c κs =
     some (c .before .before .before .args .t .now) (c .before .acks-at .result) _ (omega arith) (omega arith)
 
 returns : tie.Need-returns
+unfolding limit
 returns c = c .least-of .ensures ∙ ap least (lent (c .before .before .before .before .args .t .now) (c .before .before .before .before .args .p) (c .before .before .acks-at .result) (c .before .before .before .before .args .n) (c .before .before .acks-at .ensures) (c .before .before .before .before .pre .2))
 
 pub limit-of-spec : {M : Type 1} → statement M

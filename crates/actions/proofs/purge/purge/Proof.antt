@@ -8,10 +8,10 @@ use borrow.Author.Tests.{le-leb, lt-leb}
 use Rattle.meaning.specs.declared.Reply.{Reply}
 use Rattle.meaning.specs.declared.Reply.the-variants.{Purged, Refused}
 use Rattle.meaning.specs.declared.Action.the-variants.{Purge}
-use Rattle.meaning.specs.Rows.{above, least}
+use Rattle.meaning.specs.Rows.{above}
 use Rattle.meaning.specs.Table.{Node, count, held, node, putNode}
 use Rattle.meaning.specs.Node.{purged}
-use Rattle.meaning.specs.Steps.{reply, after, acted, reported}
+use Rattle.meaning.specs.Steps.{limit, reply, after, acted, reported}
 use Rattle.meaning.proofs.TableLaws.{Sound, held-log}
 use Rattle.meaning.proofs.StepLaws.{purge-refusal, refuse, accept}
 use borrow.Author.Needs.{needs}
@@ -29,15 +29,15 @@ module _ (t : List ℕ) (s : Sound t) (p : ℕ) where
   absent n e h = refuse t (Purge p) 2 (purge-refusal t s p ∙ rw (le-leb (count t) p (omega arith)))
 
   done :
-      (n k limit left : ℕ) (u : List ℕ) → n ≡ count t → p < n → k ≡ held t p → limit ≡ least (node t p .acks) → left ≡ length (above limit (node t p .log)) →
-      u ≡ putNode p (record { summary = node t p .summary; acks = node t p .acks; log = above limit (node t p .log) }) t →
+      (n k m left : ℕ) (u : List ℕ) → n ≡ count t → p < n → k ≡ held t p → m ≡ limit t p → left ≡ length (above m (node t p .log)) →
+      u ≡ putNode p (purged m (node t p)) t →
       (Purged (k - left) ≡ reply t (Purge p)) × (u ≡ after t (Purge p))
   unfolding reported acted purged
-  done n k limit left u en h ek el ef eu =
+  done n k m left u en h ek el ef eu =
       let a = accept t (Purge p) (purge-refusal t s p ∙ rw (lt-leb (count t) p (omega arith))) in
-      let f : left ≡ length (above (least (node t p .acks)) (node t p .log)) = ef ∙ ap (λ (m : ℕ). length (above m (node t p .log))) el in (
+      let f : left ≡ length (above (limit t p) (node t p .log)) = ef ∙ ap (λ (m : ℕ). length (above m (node t p .log))) el in (
         ap₂ (λ (x y : ℕ). Purged (x - y)) (ek ∙ held-log t p) f ∙ a .0,
-        eu ∙ ap (λ (m : ℕ). putNode p (record { summary = node t p .summary; acks = node t p .acks; log = above m (node t p .log) }) t) el ∙ a .1,
+        eu ∙ ap (λ (m : ℕ). putNode p (purged m (node t p)) t) el ∙ a .1,
       )
 
 nodes-of-requires : tie.Need-nodes-of-requires
