@@ -12,10 +12,10 @@ ghost use Rattle.meaning.proofs.TableLaws.{Sound};
 ghost use Rattle.text.specs.Text.{textMost};
 ghost use Rattle.run.specs.Run.{restOutcome, refusedBy, runOutcome, runAfter, textWritten, tableLeft};
 use layout::TABLE_WORDS;
-use meaning::Action;
 use meaning::Next;
 use meaning::Outcome;
 use meaning::Reply;
+use meaning::Step;
 use text::TEXT_MOST;
 
 // The most bytes of a journal that the program takes.
@@ -34,10 +34,11 @@ fn count(r: Reply) -> usize
 }
 
 // One step on a sound table, which it leaves sound: whether it was refused.
-fn step(t: &mut [u32], action: Action) -> usize
+fn step(t: &mut [u32], x: Step) -> usize
     requires { ⌜ Sound (now t) ⌝ }
-    ensures { λ k. ⌜ (k ≡ oneIf (refusal (now (t .entry)) action)) × (now (t .exit) ≡ after (now (t .entry)) action) × Sound (now (t .exit)) × (k ≤ 1) ⌝ }
+    ensures { λ k. ⌜ (k ≡ oneIf (refusal (now (t .entry)) (x .action))) × (now (t .exit) ≡ after (now (t .entry)) (x .action)) × Sound (now (t .exit)) × (k ≤ 1) ⌝ }
 {
+    let action = x.action;
     let r = table::apply_sound(t, action);
     count(r)
 }
@@ -56,8 +57,7 @@ fn steps(s: &[u8], from: usize, n: u32, t: &mut [u32]) -> Outcome
                 return Outcome::Bad { line, number: 15 };
             }
             Next::Act { step: x, next } => {
-                let action = x.action;
-                refused += step(t, action);
+                refused += step(t, x);
                 at = next;
                 line += 1;
             }

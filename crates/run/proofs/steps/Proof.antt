@@ -81,8 +81,8 @@ returns-2 c =
 enum-told-2 : tie.Need-enum-told-2 Inv-loop μ-loop
 enum-told-2 c = search needs
 
-sub-t16 : tie.Need-sub-t16 Inv-loop μ-loop
-sub-t16 c = omega arith
+sub-t15 : tie.Need-sub-t15 Inv-loop μ-loop
+sub-t15 c = omega arith
 
 same-length-3 : tie.Need-same-length-3 Inv-loop μ-loop
 same-length-3 c = omega arith
@@ -113,6 +113,6 @@ steps-spec =
     same-length-2
     returns-2
     enum-told-2
-    sub-t16
+    sub-t15
     same-length-3
     returns-3)
