@@ -55,7 +55,7 @@ same-length : tie.Need-same-length
 same-length c = search needs
 
 returns : tie.Need-returns
-returns c = absent (c .before .before .before .before .args .t .now) (c .before .before .before .before .pre) (c .before .before .before .before .args .node) (c .before .before .before .before .args .timestamp) (c .before .before .before .before .args .block) (c .before .before .before .before .args .verdict) (c .before .nodes-of .result) (c .before .nodes-of .ensures .0) (c .if1 .taken)
+returns c = absent (c .before .before .before .before .args .t .now) (c .before .before .before .before .pre) (c .before .before .before .before .args .node) (c .before .before .before .before .args .timestamp) (c .before .before .before .before .args .block) (c .before .before .before .before .args .verdict) (c .before .nodes-of .result) (c .before .nodes-of .ensures .0) (omega (arith, c .if1 .taken))
 
 own-of-requires : tie.Need-own-of-requires
 own-of-requires c κs = search needs
@@ -64,7 +64,7 @@ same-length-2 : tie.Need-same-length-2
 same-length-2 c = search needs
 
 returns-2 : tie.Need-returns-2
-returns-2 c = back (c .before .before .before .before .before .before .before .args .t .now) (c .before .before .before .before .before .before .before .pre) (c .before .before .before .before .before .before .before .args .node) (c .before .before .before .before .before .before .before .args .timestamp) (c .before .before .before .before .before .before .before .args .block) (c .before .before .before .before .before .before .before .args .verdict) (c .before .before .before .before .nodes-of .result) (c .before .own-of .result) (c .before .before .before .before .nodes-of .ensures .0) (c .before .before .before .if1 .left) (c .before .own-of .ensures) (c .if2 .taken)
+returns-2 c = back (c .before .before .before .before .before .before .before .args .t .now) (c .before .before .before .before .before .before .before .pre) (c .before .before .before .before .before .before .before .args .node) (c .before .before .before .before .before .before .before .args .timestamp) (c .before .before .before .before .before .before .before .args .block) (c .before .before .before .before .before .before .before .args .verdict) (c .before .before .before .before .nodes-of .result) (c .before .own-of .result) (c .before .before .before .before .nodes-of .ensures .0) (omega (arith, c .before .before .before .if1 .left)) (c .before .own-of .ensures) (omega (arith, c .if2 .taken))
 
 held-of-requires : tie.Need-held-of-requires
 held-of-requires c κs = search needs
@@ -73,7 +73,7 @@ same-length-3 : tie.Need-same-length-3
 same-length-3 c = search needs
 
 returns-3 : tie.Need-returns-3
-returns-3 c = full (c .before .before .before .before .before .before .before .before .before .before .args .t .now) (c .before .before .before .before .before .before .before .before .before .before .pre) (c .before .before .before .before .before .before .before .before .before .before .args .node) (c .before .before .before .before .before .before .before .before .before .before .args .timestamp) (c .before .before .before .before .before .before .before .before .before .before .args .block) (c .before .before .before .before .before .before .before .before .before .before .args .verdict) (c .before .before .before .before .before .before .before .nodes-of .result) (c .before .before .before .before .own-of .result) (c .before .held-of .result) (c .before .before .before .before .before .before .before .nodes-of .ensures .0) (c .before .before .before .before .before .before .if1 .left) (c .before .before .before .before .own-of .ensures) (c .before .before .before .if2 .left) (c .before .held-of .ensures .0) (c .if3 .taken)
+returns-3 c = full (c .before .before .before .before .before .before .before .before .before .before .args .t .now) (c .before .before .before .before .before .before .before .before .before .before .pre) (c .before .before .before .before .before .before .before .before .before .before .args .node) (c .before .before .before .before .before .before .before .before .before .before .args .timestamp) (c .before .before .before .before .before .before .before .before .before .before .args .block) (c .before .before .before .before .before .before .before .before .before .before .args .verdict) (c .before .before .before .before .before .before .before .nodes-of .result) (c .before .before .before .before .own-of .result) (c .before .held-of .result) (c .before .before .before .before .before .before .before .nodes-of .ensures .0) (omega (arith, c .before .before .before .before .before .before .if1 .left)) (c .before .before .before .before .own-of .ensures) (omega (arith, c .before .before .before .if2 .left)) (c .before .held-of .ensures .0) (omega (arith, c .if3 .taken))
 
 append-requires : tie.Need-append-requires
 append-requires c κs = search needs
@@ -82,7 +82,7 @@ same-length-4 : tie.Need-same-length-4
 same-length-4 c = search needs
 
 returns-4 : tie.Need-returns-4
-returns-4 c = done (c .before .before .before .before .before .before .before .before .before .before .before .before .before .before .args .t .now) (c .before .before .before .before .before .before .before .before .before .before .before .before .before .before .pre) (c .before .before .before .before .before .before .before .before .before .before .before .before .before .before .args .node) (c .before .before .before .before .before .before .before .before .before .before .before .before .before .before .args .timestamp) (c .before .before .before .before .before .before .before .before .before .before .before .before .before .before .args .block) (c .before .before .before .before .before .before .before .before .before .before .before .before .before .before .args .verdict) (c .before .before .before .before .before .before .before .before .before .before .before .nodes-of .result) (c .before .before .before .before .before .before .before .before .own-of .result) (c .before .before .before .before .before .held-of .result) (c .before .before .append .last .0) (c .before .before .before .before .before .before .before .before .before .before .before .nodes-of .ensures .0) (c .before .before .before .before .before .before .before .before .before .before .if1 .left) (c .before .before .before .before .before .before .before .before .own-of .ensures) (c .before .before .before .before .before .before .before .if2 .left) (c .before .before .before .before .before .held-of .ensures .0) (c .before .before .before .before .if3 .left) (c .before .before .append .ensures)
+returns-4 c = done (c .before .before .before .before .before .before .before .before .before .before .before .before .before .before .args .t .now) (c .before .before .before .before .before .before .before .before .before .before .before .before .before .before .pre) (c .before .before .before .before .before .before .before .before .before .before .before .before .before .before .args .node) (c .before .before .before .before .before .before .before .before .before .before .before .before .before .before .args .timestamp) (c .before .before .before .before .before .before .before .before .before .before .before .before .before .before .args .block) (c .before .before .before .before .before .before .before .before .before .before .before .before .before .before .args .verdict) (c .before .before .before .before .before .before .before .before .before .before .before .nodes-of .result) (c .before .before .before .before .before .before .before .before .own-of .result) (c .before .before .before .before .before .held-of .result) (c .before .before .append .last .0) (c .before .before .before .before .before .before .before .before .before .before .before .nodes-of .ensures .0) (omega (arith, c .before .before .before .before .before .before .before .before .before .before .if1 .left)) (c .before .before .before .before .before .before .before .before .own-of .ensures) (omega (arith, c .before .before .before .before .before .before .before .if2 .left)) (c .before .before .before .before .before .held-of .ensures .0) (omega (arith, c .before .before .before .before .if3 .left)) (c .before .before .append .ensures)
 
 pub write-spec : {M : Type 1} → statement M
 write-spec =
