@@ -2,11 +2,11 @@
 use mathlib.Core.Path.{_≡_, refl, sym, _∙_, ap}
 use mathlib.Core.Bool.{Bool, true, false}
 use mathlib.Core.List.{List, [], _∷_}
-use Prim.Native.Nat.{ℕ, zero, suc, _+_, _*_, _≤_, _<_}
+use Prim.Native.Nat.{ℕ, zero, suc, _+_, _≤_, _<_}
 use native.Mathlib.Omega.{arith}
 use lib.ListN.{length, getD, List·getD-eq-default}
 use lib.Dec.{ltb, eqb}
-use borrow.Author.Tests.{ltb-true, ltb-false, le-ltb, eqb-true, eqb-false}
+use borrow.Author.Tests.{ltb-true, ltb-false, eqb-true, eqb-false}
 use Rattle.meaning.specs.declared.Action.{Action}
 use Rattle.meaning.specs.declared.Line.{Line}
 use Rattle.meaning.specs.declared.Line.the-variants.{Begin, Act, Refused}
@@ -89,7 +89,7 @@ module _ (l : List ℕ) where
         unfolding digitsOf widths
         second-in = record { digits = digits; room = let six : length l ≡ 6 = line-whole .long ∙ ap digitsOf start in omega arith }
 
-        pub start-field : (i r : ℕ) → r ≡ getD (fieldsOf (purgeAt l)) i 0 → r ≡ getD (lineValues (readLine 0 l)) (2 + i) 0
+        start-field : (i r : ℕ) → r ≡ getD (fieldsOf (purgeAt l)) i 0 → r ≡ getD (lineValues (readLine 0 l)) (2 + i) 0
         start-field i r e =
             e ∙ after-two 0 0 (fieldAt l 1 1 ∷ []) i ∙ ap (λ (x : Line). getD (lineValues x) (2 + i) 0) (line-begin 0 (fieldAt l 1 1) refl)
 
@@ -98,7 +98,7 @@ module _ (l : List ℕ) where
         pub line-act : (line : ℕ) → Act (record { line = line; action = actionOf kind (lineFields (bytesOf l)) }) ≡ readLine line l
         line-act line = rw is at (read-act line l clear (λ z. step (sym is ∙ z)))
 
-        pub step-field : (x : Action) (i r : ℕ) → x ≡ actionOf kind (lineFields (bytesOf l)) → r ≡ getD (fieldsOf x) i 0
+        step-field : (x : Action) (i r : ℕ) → x ≡ actionOf kind (lineFields (bytesOf l)) → r ≡ getD (fieldsOf x) i 0
             → r ≡ getD (lineValues (readLine 0 l)) (2 + i) 0
         step-field x i r e p =
             let y = actionOf kind (lineFields (bytesOf l)) in

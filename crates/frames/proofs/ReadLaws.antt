@@ -11,14 +11,11 @@ use lib.Seq.{take-suc, take-all, getD-drop, drop-drop}
 use lib.Dec.{leb, ltb, eqb}
 use borrow.Author.Tests.{ltb-true, ltb-false, lt-ltb, le-ltb, leb-true, leb-false, le-leb, eqb-true, eqb-false, eq-eqb, ne-eqb}
 use borrow.Author.Count.{below-more}
-use Rattle.meaning.specs.declared.Action.{Action}
-use Rattle.meaning.specs.declared.Line.{Line}
-use Rattle.meaning.specs.declared.Line.the-variants.{Begin, Act, Refused}
 use Rattle.meaning.specs.Rows.{given}
 use Rattle.meaning.specs.Table.{countRight}
-use Rattle.meaning.specs.Frames.{digitValue, bytesOf, allDigits, total, number, widths, digitsOf, unpacked, actionOf, fieldsOf, kindOf, lineKind, lineFields, lineRefusal, lineValues, readLine}
-use Rattle.meaning.proofs.FrameLaws.{digit-none, length-bytesOf, byte-at, digits-at, digits-all, total-append, number-snoc, refused-stray, refused-empty, refused-length, refusal-whole, count-right, count-wrong, read-refused, read-begin, read-act}
-use Rattle.frames.specs.Fields.{letterValue, fieldAt, Within, Whole, writeAt, sessionAt, purgeAt, faultOf, longFault, startFault, unknownFault}
+use Rattle.meaning.specs.Frames.{digitValue, bytesOf, allDigits, total, number, widths, digitsOf, unpacked, actionOf, lineKind, lineFields, lineRefusal}
+use Rattle.meaning.proofs.FrameLaws.{digit-none, length-bytesOf, byte-at, digits-at, digits-all, total-append, number-snoc, refused-stray, refused-empty, refused-length, refusal-whole, count-right, count-wrong}
+use Rattle.frames.specs.Fields.{letterValue, fieldAt, Whole, writeAt, sessionAt, purgeAt, faultOf, longFault, startFault, unknownFault}
 
 abbrev Digit : List ℕ → ℕ → Type 0
 Digit l i = digitValue (getD l i 0) < 16
@@ -80,7 +77,7 @@ module _ (l : List ℕ) where
   pub seen-none : Seen 0 0
   seen-none = (λ d. omega arith, λ h i p. absurd (omega arith))
 
-  pub seen-more : (seen n d : ℕ) → n < length l → d ≡ digitValue (getD l n 0) → Seen seen n → Seen (bitOr seen d) (n + 1)
+  seen-more : (seen n d : ℕ) → n < length l → d ≡ digitValue (getD l n 0) → Seen seen n → Seen (bitOr seen d) (n + 1)
   seen-more seen n d h e s = (
     λ a. or-below seen d (s .0 a) (omega (arith, digits-at l n a h)),
     λ p i q. below-more (Digit l) n (s .1 (or-left seen d p)) (omega (arith, or-right seen d p)) i q,
@@ -216,7 +213,7 @@ start-sum n sum number e h = go (eqb sum 0) refl
     go true x = absurd (h (cc))
     go false x = cc
 
-pub start-count : (n sum number : ℕ) → number ≡ faultOf 0 sum → number ≡ 0 → given (not (countRight n)) 15 0 ≡ startFault n sum
+start-count : (n sum number : ℕ) → number ≡ faultOf 0 sum → number ≡ 0 → given (not (countRight n)) 15 0 ≡ startFault n sum
 unfolding faultOf startFault
 start-count n sum number e h = go (eqb sum 0) refl
   where

@@ -22,10 +22,11 @@ pub fn check(s: &[u8]) -> u32
 pub fn kind(s: &[u8]) -> u32
     ensures { λ r. ⌜ r ≡ getD (lineValues (readLine 0 (now (s .entry)))) 1 0 ⌝ }
 {
-    if read::refusal(s) != 0 {
-        return 0;
+    let number = read::refusal(s);
+    match number {
+        0 => read::byte(s, 0) as u32,
+        _ => 0,
     }
-    read::byte(s, 0) as u32
 }
 
 // The field of a line at this place among its kind's fields, from 0; 0 for a refused line and for a field that the kind has not.

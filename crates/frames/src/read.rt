@@ -87,10 +87,10 @@ fn start_fault(n: u8, sum: u8) -> u32
 fn long_fault(kind: u8, due: u8, outcome: u8, sum: u8) -> u32
     ensures { λ r. ⌜ r ≡ longFault kind due outcome sum ⌝ }
 {
-    if kind != due {
-        return 11;
+    if kind == due {
+        return fault(outcome, sum);
     }
-    fault(outcome, sum)
+    11
 }
 
 // The refusal of a line of six characters, 0 for a start or a purge.

@@ -8,17 +8,17 @@ use Rattle.frames.proofs.kind.Tie as tie
 refusal-requires : tie.Need-refusal-requires
 refusal-requires c κs = search needs
 
-returns : tie.Need-returns
-returns c = refused-kind (c .before .before .before .args .s .now) (c .before .refusal .result) (c .before .refusal .ensures) (c .if1 .taken)
-
 byte-requires : tie.Need-byte-requires
-byte-requires c κs = first-in (c .before .before .before .args .s .now) (sym (c .before .refusal .ensures) ∙ c .if1 .left)
+byte-requires c κs = first-in (c .before .before .before .args .s .now) (sym (c .before .refusal .ensures) ∙ c .match .keys1)
 
 cast-result : tie.Need-cast-result
 cast-result c = search needs
 
+returns : tie.Need-returns
+returns c = line-kind (c .before .before .before .before .args .s .now) (sym (c .before .before .refusal .ensures) ∙ c .before .match .keys1) (c .byte .result) (c .byte .ensures)
+
 returns-2 : tie.Need-returns-2
-returns-2 c = line-kind (c .before .before .before .before .args .s .now) (sym (c .before .before .refusal .ensures) ∙ c .before .if1 .left) (c .byte .result) (c .byte .ensures)
+returns-2 c = refused-kind (c .before .before .before .args .s .now) (c .before .refusal .result) (c .before .refusal .ensures) (c .match .rest .1)
 
 pub kind-spec : {M : Type 1} → statement M
-kind-spec = tie.close (tie.spec refusal-requires returns byte-requires cast-result returns-2)
+kind-spec = tie.close (tie.spec refusal-requires byte-requires cast-result returns returns-2)

@@ -5,14 +5,14 @@ use borrow.Author.Needs.{needs}
 use Rattle.frames.proofs.read.long_fault.Statement.{statement}
 use Rattle.frames.proofs.read.long_fault.Tie as tie
 
-returns : tie.Need-returns
-returns c = long-other (c .before .args .kind) (c .before .args .due) (c .before .args .outcome) (c .before .args .sum) (c .if1 .taken)
-
 fault-requires : tie.Need-fault-requires
 fault-requires c κs = search needs
 
+returns : tie.Need-returns
+returns c = c .fault .ensures ∙ long-due (c .before .before .args .kind) (c .before .before .args .due) (c .before .before .args .outcome) (c .before .before .args .sum) (c .before .if1 .taken)
+
 returns-2 : tie.Need-returns-2
-returns-2 c = c .fault .ensures ∙ long-due (c .before .before .args .kind) (c .before .before .args .due) (c .before .before .args .outcome) (c .before .before .args .sum) (c .before .if1 .left)
+returns-2 c = long-other (c .before .args .kind) (c .before .args .due) (c .before .args .outcome) (c .before .args .sum) (c .if1 .left)
 
 pub long-fault-spec : {M : Type 1} → statement M
-long-fault-spec = tie.close (tie.spec returns fault-requires returns-2)
+long-fault-spec = tie.close (tie.spec fault-requires returns returns-2)
