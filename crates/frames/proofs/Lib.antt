@@ -1,3 +1,5 @@
+pub mod LineLaws
 pub mod OneReply
 pub mod ReadLaws
+pub mod ShortLaws
 pub mod WriteLaws

@@ -5,6 +5,12 @@ use Prim.Native.Nat.{ℕ}
 use denote.Ref.{now}
 use Rattle.meaning.specs.declared.Framed.{Framed}
 use Rattle.meaning.proofs.OneReply.{OneResult, OneReply}
+use Rattle.frames.proofs.check.Kinds as check-kinds
+use Rattle.frames.proofs.check.Reads as check
+use Rattle.frames.proofs.kind.Kinds as kind-kinds
+use Rattle.frames.proofs.kind.Reads as kind
+use Rattle.frames.proofs.field.Kinds as field-kinds
+use Rattle.frames.proofs.field.Reads as field
 use Rattle.frames.proofs.read_line.Kinds as read-line-kinds
 use Rattle.frames.proofs.read_line.Reads as read-line
 use Rattle.frames.proofs.write_step.Kinds as write-step-kinds
@@ -18,6 +24,15 @@ Written = Framed × List ℕ
 
 same : {x y f : Framed} {u v w : List ℕ} → (x ≡ f) × (u ≡ w) → (y ≡ f) × (v ≡ w) → _≡_ {A = Written} (x, u) (y, v)
 same p q = ap₂ (λ (x : Framed) (u : List ℕ). (x, u)) (p .0 ∙ sym (q .0)) (p .1 ∙ sym (q .1))
+
+pub one-check : OneResult 1 check-kinds.ps check-kinds.r check.Post
+one-check κs a x y s s' p q = p ∙ sym q
+
+pub one-kind : OneResult 1 kind-kinds.ps kind-kinds.r kind.Post
+one-kind κs a x y s s' p q = p ∙ sym q
+
+pub one-field : OneResult 1 field-kinds.ps field-kinds.r field.Post
+one-field κs a x y s s' p q = p ∙ sym q
 
 pub one-line : OneResult 1 read-line-kinds.ps read-line-kinds.r read-line.Post
 one-line κs a x y s s' p q = p ∙ sym q

@@ -1,35 +1,13 @@
--- Laws of the values that C is given of a line, of a writer's answer and of a step's reply.
-use mathlib.Core.Path.{_≡_, refl, sym, _∙_, ap, ap₂}
+-- Laws of the values that C is given of a writer's answer and of a step's reply.
+use mathlib.Core.Path.{_≡_, sym, _∙_, ap, ap₂}
 use mathlib.Core.List.{List, _∷_}
-use Prim.Native.Nat.{ℕ, suc, _+_, _≤_}
-use native.Mathlib.Omega.{arith}
-use lib.ListN.{length, getD, List·getD-eq-default}
-use Rattle.meaning.specs.declared.Action.{Action}
-use Rattle.meaning.specs.declared.Line.{Line}
+use Prim.Native.Nat.{ℕ, _≤_}
+use lib.ListN.{getD}
 use Rattle.meaning.specs.declared.Reply.{Reply}
 use Rattle.meaning.specs.declared.Framed.{Framed}
 use Rattle.meaning.specs.declared.Framed.the-variants.{Length}
-use Rattle.meaning.specs.Frames.{fieldsOf, readLine, lineRefusal, lineValues, framedValues}
+use Rattle.meaning.specs.Frames.{framedValues}
 use Rattle.meaning.specs.Steps.{replyValues}
-use Rattle.meaning.proofs.FrameLaws.{value-refusal}
-
--- the answer that was read, by the case that it is
-pub value-case : (l : List ℕ) (x y : Line) (i : ℕ) → x ≡ readLine 0 l → x ≡ y → getD (lineValues y) i 0 ≡ getD (lineValues (readLine 0 l)) i 0
-value-case l x y i p q = ap (λ (z : Line). getD (lineValues z) i 0) (sym q ∙ p)
-
-pub check-case : (l : List ℕ) (x y : Line) → x ≡ readLine 0 l → x ≡ y → getD (lineValues y) 0 0 ≡ lineRefusal l
-check-case l x y p q = value-case l x y 0 p q ∙ value-refusal 0 l
-
--- the fields stand after the refusal and the kind
-pub after-two : (a b : ℕ) (xs : List ℕ) (i : ℕ) → getD xs i 0 ≡ getD (a ∷ b ∷ xs) (2 + i) 0
-after-two a b xs i = let e : 2 + i ≡ suc (suc i) = omega arith in rw e refl
-
-pub past : (xs : List ℕ) (i : ℕ) → length xs ≤ i → 0 ≡ getD xs i 0
-past xs i h = sym (List·getD-eq-default xs 0 h)
-
--- an action's field, by the case that it is
-pub field-case : (x y : Action) (i r : ℕ) → x ≡ y → r ≡ getD (fieldsOf y) i 0 → r ≡ getD (fieldsOf x) i 0
-field-case x y i r e p = rw e p
 
 -- a writer's answer, handed on as a number and a length
 pub short : (a b : Framed) → a ≡ b → getD (framedValues b) 1 0 ≤ 27 → getD (framedValues a) 1 0 ≤ 27

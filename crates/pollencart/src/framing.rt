@@ -3,10 +3,9 @@ ghost use mathlib.Core.Path.{_≡_};
 ghost use Prim.Native.Nat.{_+_, _≤_};
 ghost use lib.ListN.{getD};
 ghost use Rattle.meaning.specs.declared.Action.the-variants.{Write, Session, Purge};
-ghost use Rattle.meaning.specs.Frames.{kindOf, fieldsOf, readLine, lineRefusal, lineValues, framedValues, frameReply, frameAfter, startReply, startAfter};
+ghost use Rattle.meaning.specs.Frames.{readLine, lineRefusal, lineValues, framedValues, frameReply, frameAfter, startReply, startAfter};
 use meaning::Action;
 use meaning::Framed;
-use meaning::Line;
 use meaning::Step;
 
 // 0 for a line that reads as a start or a step, else the number of its refusal.
@@ -14,23 +13,7 @@ use meaning::Step;
 pub extern "C" fn pollencart_check(line: &[u8]) -> u32
     ensures { λ r. ⌜ r ≡ lineRefusal (now (line .entry)) ⌝ }
 {
-    let read = frames::read_line(line, 0);
-    match read {
-        Line::Begin { .. } => 0,
-        Line::Act { .. } => 0,
-        Line::Refused { number } => number,
-    }
-}
-
-// An action's kind byte.
-fn kind_of(action: Action) -> u32
-    ensures { λ r. ⌜ r ≡ kindOf action ⌝ }
-{
-    match action {
-        Action::Write { .. } => 1,
-        Action::Session { .. } => 2,
-        Action::Purge { .. } => 3,
-    }
+    frames::check(line)
 }
 
 // The kind of a line, 0 for one that is refused. A start's is 0 too: the check tells them apart.
@@ -38,74 +21,7 @@ fn kind_of(action: Action) -> u32
 pub extern "C" fn pollencart_kind(line: &[u8]) -> u32
     ensures { λ r. ⌜ r ≡ getD (lineValues (readLine 0 (now (line .entry)))) 1 0 ⌝ }
 {
-    let read = frames::read_line(line, 0);
-    match read {
-        Line::Begin { .. } => 0,
-        Line::Act { step } => {
-            let action = step.action;
-            kind_of(action)
-        }
-        Line::Refused { .. } => 0,
-    }
-}
-
-// A field of a write by its place among the fields, 0 beyond them.
-fn write_field(node: u8, timestamp: u32, block: u32, verdict: u8, index: u32) -> u32
-    ensures { λ r. ⌜ r ≡ getD (fieldsOf (Write node timestamp block verdict)) index 0 ⌝ }
-{
-    match index {
-        0 => node as u32,
-        1 => timestamp,
-        2 => block,
-        3 => verdict as u32,
-        _ => 0,
-    }
-}
-
-// A field of a session by its place among the fields, 0 beyond them.
-fn session_field(a: u8, b: u8, ca: u32, cb: u32, outcome: u8, index: u32) -> u32
-    ensures { λ r. ⌜ r ≡ getD (fieldsOf (Session a b ca cb outcome)) index 0 ⌝ }
-{
-    match index {
-        0 => a as u32,
-        1 => b as u32,
-        2 => ca,
-        3 => cb,
-        4 => outcome as u32,
-        _ => 0,
-    }
-}
-
-// The one field of a start or a purge, 0 beyond it.
-fn short_field(n: u8, index: u32) -> u32
-    ensures { λ r. ⌜ r ≡ getD (fieldsOf (Purge n)) index 0 ⌝ }
-{
-    match index {
-        0 => n as u32,
-        _ => 0,
-    }
-}
-
-// A field of an action by its place among the fields.
-fn field_of(action: Action, index: u32) -> u32
-    ensures { λ r. ⌜ r ≡ getD (fieldsOf action) index 0 ⌝ }
-{
-    match action {
-        Action::Write {
-            node,
-            timestamp,
-            block,
-            verdict,
-        } => write_field(node, timestamp, block, verdict, index),
-        Action::Session {
-            a,
-            b,
-            ca,
-            cb,
-            outcome,
-        } => session_field(a, b, ca, cb, outcome, index),
-        Action::Purge { node } => short_field(node, index),
-    }
+    frames::kind(line)
 }
 
 // The field of a line at this place among its kind's fields, from 0; 0 for a refused line and for a field that the kind has not.
@@ -113,15 +29,7 @@ fn field_of(action: Action, index: u32) -> u32
 pub extern "C" fn pollencart_field(line: &[u8], index: u32) -> u32
     ensures { λ r. ⌜ r ≡ getD (lineValues (readLine 0 (now (line .entry)))) (2 + index) 0 ⌝ }
 {
-    let read = frames::read_line(line, 0);
-    match read {
-        Line::Begin { n } => short_field(n, index),
-        Line::Act { step } => {
-            let action = step.action;
-            field_of(action, index)
-        }
-        Line::Refused { .. } => 0,
-    }
+    frames::field(line, index)
 }
 
 // The writer's answer for C: the refusal number, 0 for none, and the length through the reference, 0 if refused.

@@ -1,75 +1,83 @@
--- `field` meets its contract. The loop's invariant: the value is that of the bytes passed.
-use mathlib.Core.Path.{_≡_}
-use Prim.Native.Nat.{_+_, _-_, _^_, _≤_, _<_}
+-- `field` meets its contract: four bytes, high byte first.
 use native.Mathlib.Omega.{arith}
-use Rattle.frames.specs.Fields.{fieldAt}
-use Rattle.frames.proofs.ReadLaws.{field-none, field-more, field-below, field-end, below-four, pair-below}
+use Rattle.frames.proofs.ReadLaws.{field-four}
+use borrow.Author.Needs.{needs}
 use Rattle.frames.proofs.read.field.Statement.{statement}
 use Rattle.frames.proofs.read.field.Tie as tie
 
-abbrev Inv-loop : tie.InvT-loop
-Inv-loop s at width value₀ k₀ value k = (k ≤ width) × (value ≡ fieldAt s at k) × (value < 256 ^ k)
+byte-requires : tie.Need-byte-requires
+byte-requires c κs = search needs
 
-abbrev μ-loop : tie.MeasureT-loop
-μ-loop s at width value₀ k₀ value k = width - k
+cast-high : tie.Need-cast-high
+cast-high c = search needs
 
-loop-holds : tie.Need-loop-holds Inv-loop μ-loop
-loop-holds c =
-    let start = c .before in
-    (omega arith, field-none (start .args .s .now) (start .args .at), omega arith)
+mul-high : tie.Need-mul-high
+mul-high c = search needs
 
-mul-value : tie.Need-mul-value Inv-loop μ-loop
-mul-value c =
-    let at-loop = c .before in
-    omega (arith, below-four (at-loop .loop .value) (at-loop .loop .k) (at-loop .loop .inv .2) (omega arith))
+add-byte : tie.Need-add-byte
+add-byte c = search needs
 
-add-pair : tie.Need-add-pair Inv-loop μ-loop
-add-pair c = omega (arith, c .before .before .before .pre .1 .room)
+byte-requires-2 : tie.Need-byte-requires-2
+byte-requires-2 c κs = search needs
 
-pair-requires : tie.Need-pair-requires Inv-loop μ-loop
-pair-requires c κs = omega (arith, c .before .before .before .pre .1 .room)
+cast-high-2 : tie.Need-cast-high-2
+cast-high-2 c = search needs
 
-add-value : tie.Need-add-value Inv-loop μ-loop
-add-value c =
-    let at-loop = c .before .before in
-    let start = at-loop .before .before in
-    let small = pair-below (start .args .s .now) (start .args .at + at-loop .loop .k) (start .pre .1 .digits) (omega (arith, start .pre .1 .room)) in
-    omega (arith, below-four (at-loop .loop .value) (at-loop .loop .k) (at-loop .loop .inv .2) (omega arith))
+add-high : tie.Need-add-high
+add-high c = search needs
 
-add-k : tie.Need-add-k Inv-loop μ-loop
-add-k c = omega arith
+add-byte-2 : tie.Need-add-byte-2
+add-byte-2 c = search needs
 
-loop-less : tie.Need-loop-less Inv-loop μ-loop
-loop-less c = omega arith
+byte-requires-3 : tie.Need-byte-requires-3
+byte-requires-3 c κs = search needs
 
-loop-again : tie.Need-loop-again Inv-loop μ-loop
-loop-again c =
-    let at-loop = c .before .before in
-    let start = at-loop .before .before in
-    let more = field-more (start .args .s .now) (start .args .at) (at-loop .loop .k) (start .pre .1 .digits) (omega (arith, start .pre .1 .room)) in
-    let below = field-below (start .args .s .now) (start .args .at) (at-loop .loop .k + 1) (start .pre .1 .digits)
-    (omega (arith, start .pre .1 .room)) in
-    (omega arith, omega arith, omega arith)
+cast-low : tie.Need-cast-low
+cast-low c = search needs
 
-returns : tie.Need-returns Inv-loop μ-loop
-returns c =
-    let at-loop = c .before in
-    let start = at-loop .before .before in
-    field-end (start .args .s .now) (start .args .at) (at-loop .loop .k) (start .args .width) (at-loop .loop .value) (omega arith)
-    (at-loop .loop .inv .1) (at-loop .loop .inv .2)
+mul-low : tie.Need-mul-low
+mul-low c = search needs
+
+add-byte-3 : tie.Need-add-byte-3
+add-byte-3 c = search needs
+
+byte-requires-4 : tie.Need-byte-requires-4
+byte-requires-4 c κs = search needs
+
+cast-low-2 : tie.Need-cast-low-2
+cast-low-2 c = search needs
+
+add-low : tie.Need-add-low
+add-low c = search needs
+
+mul-result : tie.Need-mul-result
+mul-result c = search needs
+
+add-result : tie.Need-add-result
+add-result c = search needs
+
+returns : tie.Need-returns
+returns c = omega (arith, field-four (c .before .before .before .before .before .args .s .now) (c .before .before .before .before .before .args .at) (c .before .before .before .before .before .pre .room))
 
 pub field-spec : {M : Type 1} → statement M
 field-spec =
     tie.close
     (tie.spec
-    Inv-loop
-    μ-loop
-    loop-holds
-    mul-value
-    add-pair
-    pair-requires
-    add-value
-    add-k
-    loop-less
-    loop-again
+    byte-requires
+    cast-high
+    mul-high
+    add-byte
+    byte-requires-2
+    cast-high-2
+    add-high
+    add-byte-2
+    byte-requires-3
+    cast-low
+    mul-low
+    add-byte-3
+    byte-requires-4
+    cast-low-2
+    add-low
+    mul-result
+    add-result
     returns)
