@@ -7,7 +7,7 @@ use meaning::Line;
 use meaning::Step;
 
 mod read;
-mod write;
+pub mod write;
 
 // What a single line (without its LF) says, for any bytes at all: the start, the step with the line number that it is told,
 // or the first refusal that applies, of 12, 11, 13 and 15.

@@ -7,7 +7,6 @@ ghost use Rattle.meaning.specs.Frames.{kindOf, fieldsOf, readLine, lineRefusal,
 use meaning::Action;
 use meaning::Framed;
 use meaning::Line;
-use meaning::Step;
 
 // 0 for a line that reads as a start or a step, else the number of its refusal.
 #[no_mangle]
@@ -162,13 +161,7 @@ pub extern "C" fn pollencart_frame_write(
 ) -> u32
     ensures { λ r. ⌜ (r ≡ getD (framedValues (frameReply (now (out .entry)) (Write node timestamp block verdict))) 0 0) × (now (length .exit) ≡ getD (framedValues (frameReply (now (out .entry)) (Write node timestamp block verdict))) 1 0) × (now (out .exit) ≡ frameAfter (now (out .entry)) (Write node timestamp block verdict)) ⌝ }
 {
-    let action = Action::Write {
-        node,
-        timestamp,
-        block,
-        verdict,
-    };
-    let answer = frames::write_step(out, Step { line: 0, action });
+    let answer = frames::write::write(out, node, timestamp, block, verdict);
     report(answer, length)
 }
 
@@ -185,14 +178,7 @@ pub extern "C" fn pollencart_frame_session(
 ) -> u32
     ensures { λ r. ⌜ (r ≡ getD (framedValues (frameReply (now (out .entry)) (Session a b ca cb outcome))) 0 0) × (now (length .exit) ≡ getD (framedValues (frameReply (now (out .entry)) (Session a b ca cb outcome))) 1 0) × (now (out .exit) ≡ frameAfter (now (out .entry)) (Session a b ca cb outcome)) ⌝ }
 {
-    let action = Action::Session {
-        a,
-        b,
-        ca,
-        cb,
-        outcome,
-    };
-    let answer = frames::write_step(out, Step { line: 0, action });
+    let answer = frames::write::session(out, a, b, ca, cb, outcome);
     report(answer, length)
 }
 
@@ -201,7 +187,6 @@ pub extern "C" fn pollencart_frame_session(
 pub extern "C" fn pollencart_frame_purge(out: &mut [u8], node: u8, length: &mut u32) -> u32
     ensures { λ r. ⌜ (r ≡ getD (framedValues (frameReply (now (out .entry)) (Purge node))) 0 0) × (now (length .exit) ≡ getD (framedValues (frameReply (now (out .entry)) (Purge node))) 1 0) × (now (out .exit) ≡ frameAfter (now (out .entry)) (Purge node)) ⌝ }
 {
-    let action = Action::Purge { node };
-    let answer = frames::write_step(out, Step { line: 0, action });
+    let answer = frames::write::purge(out, node);
     report(answer, length)
 }
