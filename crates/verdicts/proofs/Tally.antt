@@ -114,11 +114,12 @@ module _ (w : List ℕ) (rows : ℕ) where
   few k j s s' true ek e before = omega arith
   few k j s s' false ek e before = omega arith
 
-  pub tallied-more : (k j s t seen s' t' seen' v : ℕ) (p q : Bool) → k ≡ j + 1 → v ≡ getD w (4 * j + 3) 0
+  pub tallied-more : (k j i s t seen s' t' seen' v : ℕ) (p q : Bool) → k ≡ j + 1 → i ≡ 4 * j + 3 → v ≡ getD w i 0
       → seen' ≡ bitOr seen v → p ≡ isScrubbed (classOf v) → q ≡ isTouched (classOf v)
       → s' ≡ cond p (s + 1) s → t' ≡ cond q (t + 1) t → Tallied w rows k s t seen → Tallied w rows j s' t' seen'
   unfolding scrubbed touched recordAt
-  tallied-more k j s t seen s' t' seen' v p q ek ev eo ep eq es et before =
+  tallied-more k j i s t seen s' t' seen' v p q ek ei er eo ep eq es et before =
+      let ev : v ≡ getD w (4 * j + 3) 0 = er ∙ ap (λ (x : ℕ). getD w x 0) ei in
       record {
         bytes =
             before .bytes ∙

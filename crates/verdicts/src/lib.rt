@@ -1,7 +1,7 @@
 // The verdict count. Document 01, "Verdict count"; the definitions are those of specs/Verdicts.antt.
 ghost use mathlib.Core.Path.{_≡_};
 ghost use mathlib.Core.Bool.{true, cond};
-ghost use Prim.Native.Nat.{_+_, _*_, _<_, _≤_};
+ghost use Prim.Native.Nat.{_+_, _*_, _%_, _<_, _≤_};
 ghost use lib.ListN.{length};
 ghost use Rattle.meaning.specs.Table.{tableWords, nodesMost, logMost, held, sound};
 ghost use Rattle.meaning.specs.Verdicts.{classOf, isScrubbed, isTouched, verdictCount, nodeCount};
@@ -53,19 +53,19 @@ fn with(n: u32, more: bool) -> u32
     if more { n + 1 } else { n }
 }
 
-// The count over so many whole records, in one pass from the last to the first. It has no early end: the verdicts' bits are gathered,
-// and a verdict is above 255 where what they make is.
-fn count_records(words: &[u32], rows: usize) -> Count
-    requires { ⌜ (length (now words) ≡ 4 * rows) × (rows ≤ logMost) ⌝ }
+// The count over whole records, in one pass from the last to the first. It has no early end: the verdicts' bits are gathered, and a verdict is
+// above 255 where what they make is.
+fn count_records(words: &[u32]) -> Count
+    requires { ⌜ (length (now words) % 4 ≡ 0) × (length (now words) ≤ 4 * logMost) ⌝ }
     ensures { λ r. ⌜ r ≡ verdictCount (now (words .entry)) ⌝ }
 {
     let mut scrubbed: u32 = 0;
     let mut touched: u32 = 0;
     let mut seen: u32 = 0;
-    let mut k = rows;
-    while 0 < k {
-        k -= 1;
-        let v = words[RECORD_WORDS * k + 3];
+    let mut at = words.len();
+    while 0 < at {
+        at -= RECORD_WORDS;
+        let v = words[at + 3];
         seen = seen | v;
         scrubbed = with(scrubbed, is_scrubbed(v));
         touched = with(touched, is_touched(v));
@@ -87,7 +87,7 @@ pub fn count(words: &[u32]) -> Count
     if LOG_WORDS < len {
         return Count::Refused { number: 1 };
     }
-    count_records(words, len / RECORD_WORDS)
+    count_records(words)
 }
 
 // The count over the log of node p in a sound table.
@@ -99,7 +99,7 @@ fn count_log(t: &[u32], p: usize) -> Count
     let held = layout::held_of(t, p) as usize;
     let from = layout::log_at(p);
     let to = from + RECORD_WORDS * held;
-    count_records(&t[from..to], held)
+    count_records(&t[from..to])
 }
 
 // The count over a node's log inside a table: 1 for a table that is not sound, then 3 for a node out of range.
