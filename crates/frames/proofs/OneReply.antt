@@ -15,6 +15,12 @@ use Rattle.frames.proofs.read_line.Kinds as read-line-kinds
 use Rattle.frames.proofs.read_line.Reads as read-line
 use Rattle.frames.proofs.write_step.Kinds as write-step-kinds
 use Rattle.frames.proofs.write_step.Reads as write-step
+use Rattle.frames.proofs.write.write.Kinds as write-kinds
+use Rattle.frames.proofs.write.write.Reads as write
+use Rattle.frames.proofs.write.session.Kinds as session-kinds
+use Rattle.frames.proofs.write.session.Reads as session
+use Rattle.frames.proofs.write.purge.Kinds as purge-kinds
+use Rattle.frames.proofs.write.purge.Reads as purge
 use Rattle.frames.proofs.write_start.Kinds as write-start-kinds
 use Rattle.frames.proofs.write_start.Reads as write-start
 
@@ -39,6 +45,15 @@ one-line κs a x y s s' p q = p ∙ sym q
 
 pub one-step-frame : OneReply 1 write-step-kinds.ps write-step-kinds.r write-step.Post {R = Written} (λ κs x s. (x, now (s .0)))
 one-step-frame κs a x y s s' p q = same p q
+
+pub one-write-frame : OneReply 1 write-kinds.ps write-kinds.r write.Post {R = Written} (λ κs x s. (x, now (s .0)))
+one-write-frame κs a x y s s' p q = same p q
+
+pub one-session-frame : OneReply 1 session-kinds.ps session-kinds.r session.Post {R = Written} (λ κs x s. (x, now (s .0)))
+one-session-frame κs a x y s s' p q = same p q
+
+pub one-purge-frame : OneReply 1 purge-kinds.ps purge-kinds.r purge.Post {R = Written} (λ κs x s. (x, now (s .0)))
+one-purge-frame κs a x y s s' p q = same p q
 
 pub one-start-frame : OneReply 1 write-start-kinds.ps write-start-kinds.r write-start.Post {R = Written} (λ κs x s. (x, now (s .0)))
 one-start-frame κs a x y s s' p q = same p q

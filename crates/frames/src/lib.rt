@@ -9,7 +9,7 @@ use meaning::Line;
 use meaning::Step;
 
 mod read;
-mod write;
+pub mod write;
 
 // The refusal of a single line (without its LF), for any bytes at all: the first that applies, of 12, 11, 13 and 15, 0 for none.
 pub fn check(s: &[u8]) -> u32

@@ -1,4 +1,5 @@
-// The leaves of the writers: a digit, a byte, a field, the check with the LF, and each kind's frame.
+// The leaves of the writers: a digit, a byte, a field, the check with the LF, and each kind's frame. A frame of a known kind is written
+// by its fields, as numbers, so that no step is built in memory and read back: what C calls.
 ghost use mathlib.Core.Path.{_≡_};
 ghost use mathlib.Core.Bool.{true};
 ghost use mathlib.Core.List.{[], _∷_, _++_};
@@ -94,7 +95,7 @@ fn put_session(out: &mut [u8], a: u8, b: u8, ca: u32, cb: u32, outcome: u8)
 }
 
 // A write's frame into lent bytes: 17 where they are too few.
-pub(crate) fn write(out: &mut [u8], node: u8, timestamp: u32, block: u32, verdict: u8) -> Framed
+pub fn write(out: &mut [u8], node: u8, timestamp: u32, block: u32, verdict: u8) -> Framed
     ensures { λ r. ⌜ (r ≡ frameReply (now (out .entry)) (Write node timestamp block verdict)) × (now (out .exit) ≡ frameAfter (now (out .entry)) (Write node timestamp block verdict)) ⌝ }
 {
     if out.len() < 25 {
@@ -105,7 +106,7 @@ pub(crate) fn write(out: &mut [u8], node: u8, timestamp: u32, block: u32, verdic
 }
 
 // A session's frame into lent bytes: 2 for an outcome above 3, then 17 where they are too few.
-pub(crate) fn session(out: &mut [u8], a: u8, b: u8, ca: u32, cb: u32, outcome: u8) -> Framed
+pub fn session(out: &mut [u8], a: u8, b: u8, ca: u32, cb: u32, outcome: u8) -> Framed
     ensures { λ r. ⌜ (r ≡ frameReply (now (out .entry)) (Session a b ca cb outcome)) × (now (out .exit) ≡ frameAfter (now (out .entry)) (Session a b ca cb outcome)) ⌝ }
 {
     if 3 < outcome {
@@ -119,7 +120,7 @@ pub(crate) fn session(out: &mut [u8], a: u8, b: u8, ca: u32, cb: u32, outcome: u
 }
 
 // A purge's frame into lent bytes: 17 where they are too few.
-pub(crate) fn purge(out: &mut [u8], node: u8) -> Framed
+pub fn purge(out: &mut [u8], node: u8) -> Framed
     ensures { λ r. ⌜ (r ≡ frameReply (now (out .entry)) (Purge node)) × (now (out .exit) ≡ frameAfter (now (out .entry)) (Purge node)) ⌝ }
 {
     if out.len() < 7 {

@@ -1,35 +1,21 @@
--- Laws of the verdict count, record by record, as the code counts. Document 01, "Verdict count".
+-- Laws of the verdict count: the classes, the refusals, and the log of a node. Document 01, "Verdict count".
 use mathlib.Core.Path.{_≡_, refl, sym, ap, _∙_}
-use mathlib.Core.Bool.{Bool, true, false, not, cond}
+use mathlib.Core.Bool.{Bool, true, false, not}
 use mathlib.Core.List.{List, [], _∷_}
-use Prim.Native.Nat.{ℕ, _+_, _-_, _*_, _/_, _%_, _<_, _≤_}
-use native.Mathlib.Numerals.{add-one}
+use Prim.Native.Nat.{ℕ, _*_, _/_, _%_, _<_, _≤_}
 use native.Mathlib.Omega.{arith}
 use borrow.Author.Tests.{le-ltb, lt-ltb, eq-eqb, ne-eqb, le-leb, lt-leb}
-use lib.ListN.{length, getD, take, drop, length-append, length-take, length-drop}
+use lib.ListN.{length, take, drop, length-take, length-drop}
 use lib.Seq.{getD-take}
 use lib.Dec.{leb, ltb}
 use Rattle.meaning.specs.declared.Record.{Record}
-use Rattle.meaning.specs.declared.Class.{Class}
 use Rattle.meaning.specs.declared.Class.the-variants.{NotRead, PageCache, PlatterGood, PlatterBad, Repaired, Reserved}
 use Rattle.meaning.specs.declared.Count.{Count}
-use Rattle.meaning.specs.declared.Count.the-variants.{Counted, Refused}
-use Rattle.meaning.specs.Rows.{given, every, keep, keepIf, recordAt, records}
+use Rattle.meaning.specs.declared.Count.the-variants.{Refused}
+use Rattle.meaning.specs.Rows.{given, every, recordAt, records}
 use Rattle.meaning.specs.Table.{logMost, logAt, part, count, held, node, sound, recordSound}
-use Rattle.meaning.specs.Verdicts.{
-  classOf,
-  isScrubbed,
-  isTouched,
-  scrubbed,
-  touched,
-  counted,
-  countRefusal,
-  countIs,
-  verdictCount,
-  nodeCount,
-}
-use Rattle.meaning.proofs.RowLaws.{all, and-right, and-both, and-left, every-records, keep-append, keep-one, length-keep, length-records, records-agree}
-use Rattle.meaning.proofs.SoundLaws.{every-none, every-last, every-not}
+use Rattle.meaning.specs.Verdicts.{classOf, countRefusal, verdictCount, nodeCount}
+use Rattle.meaning.proofs.RowLaws.{all, and-right, and-both, and-left, every-records, records-agree}
 use Rattle.meaning.proofs.TableLaws.{sound-facts}
 
 -- The class of a byte, found by its upper end where the lower ones were passed
@@ -57,53 +43,8 @@ pub class-6 : (v : ℕ) → 0x4f < v → Reserved ≡ classOf v
 unfolding classOf
 class-6 v l = rw (lt-leb v 0x0f (omega arith), lt-leb v 0x1f (omega arith), lt-leb v 0x2f (omega arith), lt-leb v 0x3f (omega arith), lt-leb v 0x4f l)
 
--- a count with one record more
-kept-more : (f : Record → Bool) (w : List ℕ) (k s s' : ℕ) (b : Bool)
-    → b ≡ f (recordAt w k)
-    → s' ≡ cond b (s + 1) s
-    → s ≡ length (keep f (records k w))
-    → s' ≡ length (keep f (records (k + 1) w))
-unfolding records
-kept-more f w k s s' b eb e before =
-    e ∙
-    (go b ∙
-    rw (add-one, keep-append, keep-one, length-append, ← eb, before))
-  where
-    go : (b : Bool) → cond b (s + 1) s ≡ s + length (keepIf b (recordAt w k) [])
-    go true = refl
-    go false = omega arith
-
--- The k records of w that were passed have bytes for verdicts, and these counts.
-pub record Tallied (w : List ℕ) (k s t : ℕ) : Type 0 where
-  pub bytes : every k (λ i. leb (recordAt w i .verdict) 255) ≡ true
-  pub scrub : s ≡ scrubbed (records k w)
-  pub touch : t ≡ touched (records k w)
-
 module _ (w : List ℕ) where
-  pub tallied-none : Tallied w 0 0 0
-  unfolding scrubbed touched records keep
-  tallied-none = record { bytes = every-none _; scrub = refl; touch = refl }
-
-  pub tallied-more : (k s t s' t' v : ℕ) (c : Class) (p q : Bool) → v ≡ getD w (4 * k + 3) 0 → v ≤ 255 → c ≡ classOf v → p ≡ isScrubbed c → q ≡ isTouched c
-      → s' ≡ cond p (s + 1) s → t' ≡ cond q (t + 1) t → Tallied w k s t → Tallied w (k + 1) s' t'
-  unfolding scrubbed touched recordAt
-  tallied-more k s t s' t' v c p q ev low ec ep eq es et before =
-      record {
-        bytes = every-last k _ (before .bytes) (rw (← ev) (le-leb v 255 low));
-        scrub = kept-more _ w k s s' p (ep ∙ ap isScrubbed (ec ∙ ap classOf ev)) es (before .scrub);
-        touch = kept-more _ w k t t' q (eq ∙ ap isTouched (ec ∙ ap classOf ev)) et (before .touch);
-      }
-
-  -- neither count is above the records passed
-  pub tallied-most : (k s t : ℕ) → Tallied w k s t → (s ≤ k) × (t ≤ k)
-  unfolding scrubbed touched
-  tallied-most k s t h =
-      let l = length-records k w in
-      let a = length-keep (λ (r : Record). isScrubbed (classOf (r .verdict))) (records k w) in
-      let b = length-keep (λ (r : Record). isTouched (classOf (r .verdict))) (records k w) in
-      (omega (arith, h .scrub), omega (arith, h .touch))
-
-  -- the answer: a list that is no whole records, one that is too long, a verdict that is no byte, and the counts
+  -- the answer: a list that is no whole records, and one that is too long
   pub count-uneven : (length w % 4 ≡ 0 → ⊥) → Refused 1 ≡ verdictCount w
   unfolding verdictCount countRefusal
   count-uneven odd = rw (ne-eqb (length w % 4) 0 odd)
@@ -112,23 +53,13 @@ module _ (w : List ℕ) where
   unfolding verdictCount countRefusal
   count-long even long = rw (eq-eqb (length w % 4) 0 even, lt-ltb (4 * logMost) (length w) long)
 
+  -- of k whole records only a verdict that is no byte is refused
   module _ (k : ℕ) (whole : length w ≡ 4 * k) (room : k ≤ logMost) where
-    whole-refusal : countRefusal w ≡ given (not (every k (λ i. leb (recordAt w i .verdict) 255))) 1 0
+    pub whole-refusal : countRefusal w ≡ given (not (every k (λ i. leb (recordAt w i .verdict) 255))) 1 0
     unfolding countRefusal
     whole-refusal =
         let rows : length w / 4 ≡ k = omega arith in
         rw (eq-eqb (length w % 4) 0 (omega arith), le-ltb (4 * logMost) (length w) (omega arith), rows)
-
-    pub count-wide : (i : ℕ) → i < k → 255 < getD w (4 * i + 3) 0 → Refused 1 ≡ verdictCount w
-    unfolding verdictCount recordAt
-    count-wide i below wide = rw (whole-refusal, every-not k _ i below (lt-leb (getD w (4 * i + 3) 0) 255 wide))
-
-    pub count-all : (i s t : ℕ) → i ≤ k → k ≤ i → Tallied w i s t → Counted s t ≡ verdictCount w
-    unfolding verdictCount counted
-    count-all i s t below above h =
-        let last : i ≡ k = omega arith in
-        let rows : length w / 4 ≡ i = omega arith in
-        rw (whole-refusal, rows, ← last, h .bytes, h .scrub, h .touch)
 
 -- where one test implies another, so do they over a list
 all-weaker : (f g : Record → Bool) → ((r : Record) → f r ≡ true → g r ≡ true) → (rs : List Record) → all f rs ≡ true → all g rs ≡ true

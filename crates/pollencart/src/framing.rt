@@ -6,7 +6,6 @@ ghost use Rattle.meaning.specs.declared.Action.the-variants.{Write, Session, Pu
 ghost use Rattle.meaning.specs.Frames.{readLine, lineRefusal, lineValues, framedValues, frameReply, frameAfter, startReply, startAfter};
 use meaning::Action;
 use meaning::Framed;
-use meaning::Step;
 
 // 0 for a line that reads as a start or a step, else the number of its refusal.
 #[no_mangle]
@@ -70,13 +69,7 @@ pub extern "C" fn pollencart_frame_write(
 ) -> u32
     ensures { λ r. ⌜ (r ≡ getD (framedValues (frameReply (now (out .entry)) (Write node timestamp block verdict))) 0 0) × (now (length .exit) ≡ getD (framedValues (frameReply (now (out .entry)) (Write node timestamp block verdict))) 1 0) × (now (out .exit) ≡ frameAfter (now (out .entry)) (Write node timestamp block verdict)) ⌝ }
 {
-    let action = Action::Write {
-        node,
-        timestamp,
-        block,
-        verdict,
-    };
-    let answer = frames::write_step(out, Step { line: 0, action });
+    let answer = frames::write::write(out, node, timestamp, block, verdict);
     report(answer, length)
 }
 
@@ -93,14 +86,7 @@ pub extern "C" fn pollencart_frame_session(
 ) -> u32
     ensures { λ r. ⌜ (r ≡ getD (framedValues (frameReply (now (out .entry)) (Session a b ca cb outcome))) 0 0) × (now (length .exit) ≡ getD (framedValues (frameReply (now (out .entry)) (Session a b ca cb outcome))) 1 0) × (now (out .exit) ≡ frameAfter (now (out .entry)) (Session a b ca cb outcome)) ⌝ }
 {
-    let action = Action::Session {
-        a,
-        b,
-        ca,
-        cb,
-        outcome,
-    };
-    let answer = frames::write_step(out, Step { line: 0, action });
+    let answer = frames::write::session(out, a, b, ca, cb, outcome);
     report(answer, length)
 }
 
@@ -109,7 +95,6 @@ pub extern "C" fn pollencart_frame_session(
 pub extern "C" fn pollencart_frame_purge(out: &mut [u8], node: u8, length: &mut u32) -> u32
     ensures { λ r. ⌜ (r ≡ getD (framedValues (frameReply (now (out .entry)) (Purge node))) 0 0) × (now (length .exit) ≡ getD (framedValues (frameReply (now (out .entry)) (Purge node))) 1 0) × (now (out .exit) ≡ frameAfter (now (out .entry)) (Purge node)) ⌝ }
 {
-    let action = Action::Purge { node };
-    let answer = frames::write_step(out, Step { line: 0, action });
+    let answer = frames::write::purge(out, node);
     report(answer, length)
 }

@@ -4,9 +4,7 @@ ghost use lib.ListN.{getD};
 ghost use Rattle.meaning.specs.declared.Action.the-variants.{Write, Session, Purge};
 ghost use Rattle.meaning.specs.Table.{freshRefusal, madeFresh};
 ghost use Rattle.meaning.specs.Steps.{reply, after, replyValues};
-use meaning::Action;
 use meaning::Reply;
-use meaning::Step;
 
 // A reply's refusal number, 0 for none.
 fn number_of(answer: Reply) -> u32
@@ -63,13 +61,7 @@ pub extern "C" fn pollencart_write(
 ) -> u32
     ensures { λ r. ⌜ (r ≡ getD (replyValues (reply (now (table .entry)) (Write node timestamp block verdict))) 0 0) × (now (table .exit) ≡ after (now (table .entry)) (Write node timestamp block verdict)) ⌝ }
 {
-    let action = Action::Write {
-        node,
-        timestamp,
-        block,
-        verdict,
-    };
-    let answer = table::apply(table, Step { line: 0, action });
+    let answer = table::act::write(table, node, timestamp, block, verdict);
     number_of(answer)
 }
 
@@ -87,14 +79,7 @@ pub extern "C" fn pollencart_session(
 ) -> u32
     ensures { λ r. ⌜ (r ≡ getD (replyValues (reply (now (table .entry)) (Session a b ca cb outcome))) 0 0) × (now («to_a» .exit) ≡ getD (replyValues (reply (now (table .entry)) (Session a b ca cb outcome))) 1 0) × (now («to_b» .exit) ≡ getD (replyValues (reply (now (table .entry)) (Session a b ca cb outcome))) 2 0) × (now (table .exit) ≡ after (now (table .entry)) (Session a b ca cb outcome)) ⌝ }
 {
-    let action = Action::Session {
-        a,
-        b,
-        ca,
-        cb,
-        outcome,
-    };
-    let answer = table::apply(table, Step { line: 0, action });
+    let answer = table::act::session(table, a, b, ca, cb, outcome);
     *to_a = first_of(answer);
     *to_b = second_of(answer);
     number_of(answer)
@@ -105,8 +90,7 @@ pub extern "C" fn pollencart_session(
 pub extern "C" fn pollencart_purge(table: &mut [u32], node: u8, removed: &mut u32) -> u32
     ensures { λ r. ⌜ (r ≡ getD (replyValues (reply (now (table .entry)) (Purge node))) 0 0) × (now (removed .exit) ≡ getD (replyValues (reply (now (table .entry)) (Purge node))) 1 0) × (now (table .exit) ≡ after (now (table .entry)) (Purge node)) ⌝ }
 {
-    let action = Action::Purge { node };
-    let answer = table::apply(table, Step { line: 0, action });
+    let answer = table::act::purge(table, node);
     *removed = first_of(answer);
     number_of(answer)
 }

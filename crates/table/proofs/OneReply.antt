@@ -9,6 +9,12 @@ use Rattle.table.proofs.fresh.Kinds as fresh-kinds
 use Rattle.table.proofs.fresh.Reads as fresh
 use Rattle.table.proofs.apply.Kinds as apply-kinds
 use Rattle.table.proofs.apply.Reads as apply
+use Rattle.table.proofs.act.write.Kinds as write-kinds
+use Rattle.table.proofs.act.write.Reads as write
+use Rattle.table.proofs.act.session.Kinds as session-kinds
+use Rattle.table.proofs.act.session.Reads as session
+use Rattle.table.proofs.act.purge.Kinds as purge-kinds
+use Rattle.table.proofs.act.purge.Reads as purge
 use Rattle.table.proofs.apply_sound.Kinds as apply-sound-kinds
 use Rattle.table.proofs.apply_sound.Reads as apply-sound
 
@@ -24,6 +30,15 @@ one-fresh κs a x y s s' p q = ap₂ _∷_ (p .0 ∙ sym (q .0)) (p .1 ∙ sym (
 
 pub one-step : OneReply 1 apply-kinds.ps apply-kinds.r apply.Post {R = Applied} (λ κs x s. (x, now (s .0)))
 one-step κs a x y s s' p q = same p q
+
+pub one-write : OneReply 1 write-kinds.ps write-kinds.r write.Post {R = Applied} (λ κs x s. (x, now (s .0)))
+one-write κs a x y s s' p q = same p q
+
+pub one-session : OneReply 1 session-kinds.ps session-kinds.r session.Post {R = Applied} (λ κs x s. (x, now (s .0)))
+one-session κs a x y s s' p q = same p q
+
+pub one-purge : OneReply 1 purge-kinds.ps purge-kinds.r purge.Post {R = Applied} (λ κs x s. (x, now (s .0)))
+one-purge κs a x y s s' p q = same p q
 
 pub one-sound-step : OneReply 1 apply-sound-kinds.ps apply-sound-kinds.r apply-sound.Post {R = Applied} (λ κs x s. (x, now (s .0)))
 one-sound-step κs a x y s s' p q = same p q

@@ -1,5 +1,5 @@
 // The lent table: a fresh one, and one step applied. Document 01, "The table" and "The three actions".
-// The entry points, `fresh` and `apply`, take any words at all; what the crates below them require, they have shown.
+// The entry points, `fresh`, `apply` and those of `act`, take any words at all; what the crates below them require, they have shown.
 
 ghost use mathlib.Core.Path.{_≡_};
 ghost use Rattle.meaning.specs.Table.{freshRefusal, madeFresh};
@@ -10,6 +10,8 @@ use meaning::Reply;
 use meaning::Step;
 use rows::row::clear;
 use rows::row::put_word;
+
+pub mod act;
 
 // "A fresh table has its count set and every other word zero. Making one is refused with 1, the lent words unchanged, if the count or the
 // length is wrong."

@@ -1,65 +1,57 @@
--- `verdicts::count_records`. The invariant: the k records passed have bytes for verdicts, and the counts are those of the definition.
-use mathlib.Core.Path.{refl}
-use Prim.Native.Nat.{_≤_, _-_}
+-- `verdicts::count_records`. The invariant: the records before place `at` are yet to be counted, and with their counts the counts are those of the definition.
+use mathlib.Core.Path.{_≡_, refl}
+use Prim.Native.Nat.{_/_, _%_, _≤_}
 use native.Mathlib.Omega.{arith}
 use borrow.Author.Needs.{needs}
-use Rattle.meaning.proofs.VerdictLaws.{Tallied, tallied-none, tallied-more, tallied-most, count-wide, count-all}
+use lib.ListN.{length}
+use Rattle.verdicts.proofs.Tally.{Tallied, tallied-none, tallied-more, tallied-all, count-wide, count-all}
 use Rattle.verdicts.proofs.count_records.Statement.{statement}
 use Rattle.verdicts.proofs.count_records.Tie as tie
 
 abbrev Inv-loop : tie.InvT-loop
-Inv-loop words rows scrubbed₀ touched₀ k₀ scrubbed touched k = (k ≤ rows) × Tallied words k scrubbed touched
+Inv-loop words scrubbed₀ touched₀ seen₀ at₀ scrubbed touched seen at = (at % 4 ≡ 0) × (at ≤ length words) × Tallied words (length words / 4) (at / 4) scrubbed touched seen
 
 abbrev μ-loop : tie.MeasureT-loop
-μ-loop words rows scrubbed₀ touched₀ k₀ scrubbed touched k = rows - k
+μ-loop words scrubbed₀ touched₀ seen₀ at₀ scrubbed touched seen at = at
 
 loop-holds : tie.Need-loop-holds Inv-loop μ-loop
-loop-holds c = (omega arith, tallied-none _)
+loop-holds c = (omega arith, omega arith, tallied-none _ _)
 
-mul-v : tie.Need-mul-v Inv-loop μ-loop
-mul-v c = omega arith
+sub-at : tie.Need-sub-at Inv-loop μ-loop
+sub-at c = omega arith
 
 add-v : tie.Need-add-v Inv-loop μ-loop
 add-v c = omega arith
 
-mul-v-2 : tie.Need-mul-v-2 Inv-loop μ-loop
-mul-v-2 c = omega arith
+mul-v : tie.Need-mul-v Inv-loop μ-loop
+mul-v c = omega arith
 
 shared-slice-read-v : tie.Need-shared-slice-read-v Inv-loop μ-loop
 shared-slice-read-v c = omega arith
-
-returns : tie.Need-returns Inv-loop μ-loop
-returns c = count-wide _ _ (c .before .before .before .before .before .pre .0) (c .before .before .before .before .before .pre .1) _ (c .before .before .loop-test .taken) (c .if1 .taken)
-
-cast-class-of : tie.Need-cast-class-of Inv-loop μ-loop
-cast-class-of c = omega arith
-
-class-of-requires : tie.Need-class-of-requires Inv-loop μ-loop
-class-of-requires c κs = search needs
 
 is-scrubbed-requires : tie.Need-is-scrubbed-requires Inv-loop μ-loop
 is-scrubbed-requires c κs = search needs
 
 with-requires : tie.Need-with-requires Inv-loop μ-loop
-with-requires c κs = omega (arith, tallied-most _ _ _ _ (c .before .before .before .before .before .loop .inv .1))
+with-requires c κs = omega (arith, c .before .before .before .loop .inv .2 .scrub-few)
 
 is-touched-requires : tie.Need-is-touched-requires Inv-loop μ-loop
 is-touched-requires c κs = search needs
 
 with-requires-2 : tie.Need-with-requires-2 Inv-loop μ-loop
-with-requires-2 c κs = omega (arith, tallied-most _ _ _ _ (c .before .before .before .before .before .before .before .loop .inv .1))
-
-add-k : tie.Need-add-k Inv-loop μ-loop
-add-k c = omega arith
+with-requires-2 c κs = omega (arith, c .before .before .before .before .before .loop .inv .2 .touch-few)
 
 loop-less : tie.Need-loop-less Inv-loop μ-loop
 loop-less c = omega arith
 
 loop-again : tie.Need-loop-again Inv-loop μ-loop
-loop-again c = (omega arith, tallied-more _ _ _ _ _ _ _ _ _ _ refl (omega arith) (c .before .before .before .before .class-of .ensures) (c .before .before .before .is-scrubbed .ensures) (c .before .is-touched .ensures) (c .before .before .with .ensures) (c .with2 .ensures) (c .before .before .before .before .before .before .before .before .loop .inv .1))
+loop-again c = (omega arith, omega arith, tallied-more _ _ _ _ _ _ _ _ _ _ _ _ _ _ (omega arith) (omega arith) refl refl (c .before .before .before .is-scrubbed .ensures) (c .before .is-touched .ensures) (c .before .before .with .ensures) (c .with2 .ensures) (c .before .before .before .before .before .before .loop .inv .2))
+
+returns : tie.Need-returns Inv-loop μ-loop
+returns c = count-wide _ _ (omega arith) (omega arith) _ _ _ (tallied-all _ _ _ _ _ _ (omega arith) (c .before .before .loop .inv .2)) (omega arith)
 
 returns-2 : tie.Need-returns-2 Inv-loop μ-loop
-returns-2 c = count-all _ _ (c .before .before .before .pre .0) (c .before .before .before .pre .1) _ _ _ (c .before .loop .inv .0) (omega arith) (c .before .loop .inv .1)
+returns-2 c = count-all _ _ (omega arith) (omega arith) _ _ _ (tallied-all _ _ _ _ _ _ (omega arith) (c .before .before .loop .inv .2)) (omega arith)
 
 pub count-records-spec : {M : Type 1} → statement M
 count-records-spec =
@@ -68,18 +60,15 @@ count-records-spec =
     Inv-loop
     μ-loop
     loop-holds
-    mul-v
+    sub-at
     add-v
-    mul-v-2
+    mul-v
     shared-slice-read-v
-    returns
-    cast-class-of
-    class-of-requires
     is-scrubbed-requires
     with-requires
     is-touched-requires
     with-requires-2
-    add-k
     loop-less
     loop-again
+    returns
     returns-2)

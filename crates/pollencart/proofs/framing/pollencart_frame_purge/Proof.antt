@@ -7,28 +7,23 @@ use borrow.Author.Needs.{needs}
 use Rattle.pollencart.proofs.framing.pollencart_frame_purge.Statement.{statement}
 use Rattle.pollencart.proofs.framing.pollencart_frame_purge.Tie as tie
 
-write-step-requires : tie.Need-write-step-requires
-write-step-requires c κs = search needs
+purge-requires : tie.Need-purge-requires
+purge-requires c κs = search needs
 
 report-requires : tie.Need-report-requires
-report-requires c κs =
-    let at-write-step = c .before .before .before in
-    let start = at-write-step .before .before .before in
-    let x = Purge (start .args .node) in
-    short (at-write-step .write-step .result) (frameReply (start .args .out .now) x) (at-write-step .write-step .ensures .0)
-    (value-length (start .args .out .now) x)
+report-requires c κs = short _ _ (c .before .before .before .purge .ensures .0) (value-length _ _)
 
 same-length : tie.Need-same-length
 same-length c = search needs
 
 returns : tie.Need-returns
 returns c =
-    let at-write-step = c .before .before .before .before in
-    let start = at-write-step .before .before .before in
+    let at-purge = c .before .before .before .before in
+    let start = at-purge .before .before .before in
     let x = Purge (start .args .node) in
-    reported (at-write-step .write-step .result) (frameReply (start .args .out .now) x) (at-write-step .write-step .last .0)
-    (frameAfter (start .args .out .now) x) (c .report .result) (c .report .last .1 .0) (at-write-step .write-step .ensures) (c .report .ensures)
+    reported (at-purge .purge .result) (frameReply (start .args .out .now) x) (at-purge .purge .last .0)
+    (frameAfter (start .args .out .now) x) (c .report .result) (c .report .last .1 .0) (at-purge .purge .ensures) (c .report .ensures)
 
 pub pollencart-frame-purge-spec : {M : Type 1} → statement M
 pollencart-frame-purge-spec =
-    tie.close (tie.spec write-step-requires report-requires same-length returns)
+    tie.close (tie.spec purge-requires report-requires same-length returns)

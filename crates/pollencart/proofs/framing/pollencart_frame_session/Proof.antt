@@ -7,28 +7,23 @@ use borrow.Author.Needs.{needs}
 use Rattle.pollencart.proofs.framing.pollencart_frame_session.Statement.{statement}
 use Rattle.pollencart.proofs.framing.pollencart_frame_session.Tie as tie
 
-write-step-requires : tie.Need-write-step-requires
-write-step-requires c κs = search needs
+session-requires : tie.Need-session-requires
+session-requires c κs = search needs
 
 report-requires : tie.Need-report-requires
-report-requires c κs =
-    let at-write-step = c .before .before .before in
-    let start = at-write-step .before .before .before in
-    let x = Session (start .args .a) (start .args .b) (start .args .ca) (start .args .cb) (start .args .outcome) in
-    short (at-write-step .write-step .result) (frameReply (start .args .out .now) x) (at-write-step .write-step .ensures .0)
-    (value-length (start .args .out .now) x)
+report-requires c κs = short _ _ (c .before .before .before .session .ensures .0) (value-length _ _)
 
 same-length : tie.Need-same-length
 same-length c = search needs
 
 returns : tie.Need-returns
 returns c =
-    let at-write-step = c .before .before .before .before in
-    let start = at-write-step .before .before .before in
+    let at-session = c .before .before .before .before in
+    let start = at-session .before .before .before in
     let x = Session (start .args .a) (start .args .b) (start .args .ca) (start .args .cb) (start .args .outcome) in
-    reported (at-write-step .write-step .result) (frameReply (start .args .out .now) x) (at-write-step .write-step .last .0)
-    (frameAfter (start .args .out .now) x) (c .report .result) (c .report .last .1 .0) (at-write-step .write-step .ensures) (c .report .ensures)
+    reported (at-session .session .result) (frameReply (start .args .out .now) x) (at-session .session .last .0)
+    (frameAfter (start .args .out .now) x) (c .report .result) (c .report .last .1 .0) (at-session .session .ensures) (c .report .ensures)
 
 pub pollencart-frame-session-spec : {M : Type 1} → statement M
 pollencart-frame-session-spec =
-    tie.close (tie.spec write-step-requires report-requires same-length returns)
+    tie.close (tie.spec session-requires report-requires same-length returns)

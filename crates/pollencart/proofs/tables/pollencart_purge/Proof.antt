@@ -4,8 +4,8 @@ use borrow.Author.Needs.{needs}
 use Rattle.pollencart.proofs.tables.pollencart_purge.Statement.{statement}
 use Rattle.pollencart.proofs.tables.pollencart_purge.Tie as tie
 
-apply-requires : tie.Need-apply-requires
-apply-requires c κs = search needs
+purge-requires : tie.Need-purge-requires
+purge-requires c κs = search needs
 
 first-of-requires : tie.Need-first-of-requires
 first-of-requires c κs = search needs
@@ -17,7 +17,7 @@ same-length : tie.Need-same-length
 same-length c = search needs
 
 returns : tie.Need-returns
-returns c = (reply-value _ _ 0 _ (c .before .before .before .before .apply .ensures .0) (c .number-of .ensures), reply-value _ _ 1 _ (c .before .before .before .before .apply .ensures .0) (c .before .first-of .ensures), c .before .before .before .before .apply .ensures .1)
+returns c = (reply-value _ _ 0 _ (c .before .before .before .before .purge .ensures .0) (c .number-of .ensures), reply-value _ _ 1 _ (c .before .before .before .before .purge .ensures .0) (c .before .first-of .ensures), c .before .before .before .before .purge .ensures .1)
 
 pub pollencart-purge-spec : {M : Type 1} → statement M
-pollencart-purge-spec = tie.close (tie.spec apply-requires first-of-requires number-of-requires same-length returns)
+pollencart-purge-spec = tie.close (tie.spec purge-requires first-of-requires number-of-requires same-length returns)

@@ -4,8 +4,8 @@ use borrow.Author.Needs.{needs}
 use Rattle.pollencart.proofs.tables.pollencart_session.Statement.{statement}
 use Rattle.pollencart.proofs.tables.pollencart_session.Tie as tie
 
-apply-requires : tie.Need-apply-requires
-apply-requires c κs = search needs
+session-requires : tie.Need-session-requires
+session-requires c κs = search needs
 
 first-of-requires : tie.Need-first-of-requires
 first-of-requires c κs = search needs
@@ -20,7 +20,7 @@ same-length : tie.Need-same-length
 same-length c = search needs
 
 returns : tie.Need-returns
-returns c = (reply-value _ _ 0 _ (c .before .before .before .before .before .apply .ensures .0) (c .number-of .ensures), reply-value _ _ 1 _ (c .before .before .before .before .before .apply .ensures .0) (c .before .before .first-of .ensures), reply-value _ _ 2 _ (c .before .before .before .before .before .apply .ensures .0) (c .before .second-of .ensures), c .before .before .before .before .before .apply .ensures .1)
+returns c = (reply-value _ _ 0 _ (c .before .before .before .before .before .session .ensures .0) (c .number-of .ensures), reply-value _ _ 1 _ (c .before .before .before .before .before .session .ensures .0) (c .before .before .first-of .ensures), reply-value _ _ 2 _ (c .before .before .before .before .before .session .ensures .0) (c .before .second-of .ensures), c .before .before .before .before .before .session .ensures .1)
 
 pub pollencart-session-spec : {M : Type 1} → statement M
-pollencart-session-spec = tie.close (tie.spec apply-requires first-of-requires second-of-requires number-of-requires same-length returns)
+pollencart-session-spec = tie.close (tie.spec session-requires first-of-requires second-of-requires number-of-requires same-length returns)

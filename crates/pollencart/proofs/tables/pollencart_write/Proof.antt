@@ -4,8 +4,8 @@ use borrow.Author.Needs.{needs}
 use Rattle.pollencart.proofs.tables.pollencart_write.Statement.{statement}
 use Rattle.pollencart.proofs.tables.pollencart_write.Tie as tie
 
-apply-requires : tie.Need-apply-requires
-apply-requires c κs = search needs
+write-requires : tie.Need-write-requires
+write-requires c κs = search needs
 
 number-of-requires : tie.Need-number-of-requires
 number-of-requires c κs = search needs
@@ -14,7 +14,7 @@ same-length : tie.Need-same-length
 same-length c = search needs
 
 returns : tie.Need-returns
-returns c = (reply-value _ _ 0 _ (c .before .before .before .apply .ensures .0) (c .number-of .ensures), c .before .before .before .apply .ensures .1)
+returns c = (reply-value _ _ 0 _ (c .before .before .before .write .ensures .0) (c .number-of .ensures), c .before .before .before .write .ensures .1)
 
 pub pollencart-write-spec : {M : Type 1} → statement M
-pollencart-write-spec = tie.close (tie.spec apply-requires number-of-requires same-length returns)
+pollencart-write-spec = tie.close (tie.spec write-requires number-of-requires same-length returns)
