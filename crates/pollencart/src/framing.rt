@@ -4,7 +4,6 @@ ghost use Prim.Native.Nat.{_+_, _≤_};
 ghost use lib.ListN.{getD};
 ghost use Rattle.meaning.specs.declared.Action.the-variants.{Write, Session, Purge};
 ghost use Rattle.meaning.specs.Frames.{readLine, lineRefusal, lineValues, framedValues, frameReply, frameAfter, startReply, startAfter};
-use meaning::Action;
 use meaning::Framed;
 
 // 0 for a line that reads as a start or a step, else the number of its refusal.
