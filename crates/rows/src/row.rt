@@ -33,14 +33,14 @@ pub fn least_of(row: &[u32]) -> u32
     low
 }
 
-// Raises each entry of a row to the other row's, where that is greater.
-pub fn raise_row(row: &mut [u32], other: &[u32])
-    requires { ⌜ length (now other) ≡ length (now row) ⌝ }
-    ensures { λ _. ⌜ now (row .exit) ≡ raise (now (row .entry)) (now (other .entry)) ⌝ }
+// Fills a row with, entry by entry, the greater of two rows.
+pub fn fill_raised(row: &mut [u32], mine: &[u32], theirs: &[u32])
+    requires { ⌜ (length (now mine) ≡ length (now row)) × (length (now theirs) ≡ length (now row)) ⌝ }
+    ensures { λ _. ⌜ now (row .exit) ≡ raise (now (mine .entry)) (now (theirs .entry)) ⌝ }
 {
     let mut i: usize = 0;
     while i < row.len() {
-        row[i] = max_of(row[i], other[i]);
+        row[i] = max_of(mine[i], theirs[i]);
         i += 1;
     }
 }
@@ -90,7 +90,6 @@ pub fn put_raised(t: &mut [u32], at: usize, mine: &[u32], theirs: &[u32])
     requires { ⌜ (at + length (now mine) ≤ length (now t)) × (length (now theirs) ≡ length (now mine)) ⌝ }
     ensures { λ _. ⌜ now (t .exit) ≡ place at (raise (now (mine .entry)) (now (theirs .entry))) (now (t .entry)) ⌝ }
 {
-    put_row(t, at, mine);
     let end = at + mine.len();
-    raise_row(&mut t[at..end], theirs);
+    fill_raised(&mut t[at..end], mine, theirs);
 }

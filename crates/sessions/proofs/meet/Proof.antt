@@ -1,23 +1,22 @@
 -- `sessions::meet` meets its contract: 5 where a reading is behind its node's own entry, or the exchange.
-use mathlib.Core.Path.{_≡_, refl, ap, ap₂, sym, _∙_}
-use mathlib.Core.Bool.{Bool, true, false, _||_, or-true}
+use mathlib.Core.Path.{_≡_, ap, _∙_}
+use mathlib.Core.Bool.{or-true}
 use mathlib.Core.List.{List}
-use Prim.Native.Nat.{ℕ, _<_, _≤_}
+use Prim.Native.Nat.{ℕ, _-_, _<_, _≤_}
 use native.Mathlib.Omega.{arith}
 use borrow.Author.Tests.{lt-ltb, le-ltb}
 use lib.ListN.{length, take}
 use lib.Dec.{ltb}
 use Rattle.meaning.specs.declared.Reply.{Reply}
-use Rattle.meaning.specs.declared.Reply.the-variants.{Carried, Refused}
+use Rattle.meaning.specs.declared.Reply.the-variants.{Refused}
 use Rattle.meaning.specs.declared.Action.the-variants.{Session}
 use Rattle.meaning.specs.Rows.{given, unless}
-use Rattle.meaning.specs.Table.{Node, node, count, held, putNode}
-use Rattle.meaning.specs.Node.{own, opened, ended}
-use Rattle.meaning.specs.Steps.{finishesA, finishesB, clockBack, overfull, noRoom, acted, carried, reported, replied}
-use Rattle.meaning.proofs.TableLaws.{Sound, Shaped, node-shaped}
+use Rattle.meaning.specs.Table.{Node, node, count}
+use Rattle.meaning.specs.Node.{own, opened}
+use Rattle.meaning.specs.Steps.{clockBack, noRoom, acted, reported, replied}
+use Rattle.meaning.proofs.TableLaws.{Sound, node-shaped}
 use Rattle.meaning.proofs.StepLaws.{opened-shaped}
 use Rattle.sessions.specs.Begun.{begun, Exchanged, Meets}
-use Rattle.sessions.specs.declared.Start.{Start}
 use borrow.Author.Needs.{needs}
 use Rattle.sessions.proofs.meet.Statement.{statement}
 use Rattle.sessions.proofs.meet.Tie as tie
@@ -46,21 +45,32 @@ module _ (t : List ℕ) (s : Sound t) (a b : ℕ) (ha : a < count t) (hb : b < c
       let f = or-true (ltb ca (own a (node t a))) in
       (rw (g, f), rw (g, f))
 
-  module _ (n : ℕ) (en : n ≡ count t) (sa sb : Start) (ea : begun n sa (node t a .log) ≡ opened a ca (node t a)) (eb : begun n sb (node t b .log) ≡ opened b cb (node t b)) where
-    long : (p c : ℕ) → p < count t → (st : Start) → begun n st (node t p .log) ≡ opened p c (node t p) → (length (take n (st .summary)) ≡ n) × (length (take n (st .acks)) ≡ n)
-    long p c h st e =
+  module _ (n : ℕ) (en : n ≡ count t) (m : ℕ) (em : m ≡ n) (sa ka sb kb : List ℕ) (ea : begun (take n sa) (take n ka) (node t a .log) ≡ opened a ca (node t a))
+      (eb : begun (take n sb) (take n kb) (node t b .log) ≡ opened b cb (node t b)) where
+    -- the lent parts of a node's rows are its starting values
+    lent : (p c : ℕ) (s′ k′ : List ℕ) → begun (take n s′) (take n k′) (node t p .log) ≡ opened p c (node t p) → begun (take m s′) (take m k′) (node t p .log) ≡ opened p c (node t p)
+    lent p c s′ k′ e = ap (λ (i : ℕ). begun (take i s′) (take i k′) (node t p .log)) em ∙ e
+
+    long :
+        (p c : ℕ) → p < count t → (s′ k′ : List ℕ) → begun (take n s′) (take n k′) (node t p .log) ≡ opened p c (node t p) →
+        (length (take m s′) ≡ count t) × (length (take m k′) ≡ count t)
+    long p c h s′ k′ e =
         let f = opened-shaped (count t) (node t p) (node-shaped t s p h) p c in
-        (ap (λ (z : Node). length (z .summary)) e ∙ f .summaryLong ∙ sym en, ap (λ (z : Node). length (z .acks)) e ∙ f .acksLong ∙ sym en)
+        (ap (λ (z : Node). length (z .summary)) (lent p c s′ k′ e) ∙ f .summaryLong, ap (λ (z : Node). length (z .acks)) (lent p c s′ k′ e) ∙ f .acksLong)
 
-    ready : Meets t n a b sa sb
-    ready = record { isSound = s; counted = en; hereA = ha; hereB = hb; apart = apart; longA = long a ca ha sa ea; longB = long b cb hb sb eb }
+    ready : Meets t a b (take m sa) (take m ka) (take m sb) (take m kb)
+    ready = record { isSound = s; hereA = ha; hereB = hb; apart = apart; longA = long a ca ha sa ka ea; longB = long b cb hb sb kb eb }
 
-    done : (x y : ℕ) → x ≡ own a (node t a) → x ≤ ca → y ≡ own b (node t b) → y ≤ cb → (r : Reply) (u : List ℕ) → Exchanged t o n a b sa sb r u → Right r u
+    done :
+        (x y : ℕ) → x ≡ own a (node t a) → x ≤ ca → y ≡ own b (node t b) → y ≤ cb → (r : Reply) (u : List ℕ) →
+        Exchanged t o a b (take m sa) (take m ka) (take m sb) (take m kb) r u → Right r u
     unfolding clockBack noRoom reported acted Right
     done x y ex lx ey ly r u e =
         let f = le-ltb ca (own a (node t a)) (omega arith) in
         let g = le-ltb cb (own b (node t b)) (omega arith) in
-        rw (f, g, ← ea, ← eb) (e .replies, e .leaves)
+        let i = lent a ca sa ka ea in
+        let j = lent b cb sb kb eb in
+        rw (f, g, ← i, ← j) (e .replies, e .leaves)
 
 own-of-requires : tie.Need-own-of-requires
 own-of-requires c κs = search needs
@@ -85,21 +95,74 @@ returns-2 c = backB (c .before .before .before .before .before .before .before .
 nodes-of-requires : tie.Need-nodes-of-requires
 nodes-of-requires c κs = search needs
 
+slice-aggregate-opening : tie.Need-slice-aggregate-opening
+slice-aggregate-opening c = search needs
+
+slice-aggregate-opening-2 : tie.Need-slice-aggregate-opening-2
+slice-aggregate-opening-2 c = search needs
+
 opening-requires : tie.Need-opening-requires
 opening-requires c κs = search needs
+
+slice-aggregate-opening-3 : tie.Need-slice-aggregate-opening-3
+slice-aggregate-opening-3 c = search needs
+
+slice-aggregate-opening-4 : tie.Need-slice-aggregate-opening-4
+slice-aggregate-opening-4 c = search needs
 
 opening-requires-2 : tie.Need-opening-requires-2
 opening-requires-2 c κs = search needs
 
+sub-exchange : tie.Need-sub-exchange
+sub-exchange c = search needs
+
+part-exchange-start : tie.Need-part-exchange-start
+part-exchange-start c = search needs
+
+part-exchange-end : tie.Need-part-exchange-end
+part-exchange-end c = search needs
+
+sub-exchange-2 : tie.Need-sub-exchange-2
+sub-exchange-2 c = search needs
+
+part-exchange-start-2 : tie.Need-part-exchange-start-2
+part-exchange-start-2 c = search needs
+
+part-exchange-end-2 : tie.Need-part-exchange-end-2
+part-exchange-end-2 c = search needs
+
+sub-exchange-3 : tie.Need-sub-exchange-3
+sub-exchange-3 c = search needs
+
+part-exchange-start-3 : tie.Need-part-exchange-start-3
+part-exchange-start-3 c = search needs
+
+part-exchange-end-3 : tie.Need-part-exchange-end-3
+part-exchange-end-3 c = search needs
+
+sub-exchange-4 : tie.Need-sub-exchange-4
+sub-exchange-4 c = search needs
+
+part-exchange-start-4 : tie.Need-part-exchange-start-4
+part-exchange-start-4 c = search needs
+
+part-exchange-end-4 : tie.Need-part-exchange-end-4
+part-exchange-end-4 c = search needs
+
 exchange-requires : tie.Need-exchange-requires
-exchange-requires c κs = ready (c .before .before .before .before .before .before .before .before .before .before .before .before .before .before .args .t .now) (c .before .before .before .before .before .before .before .before .before .before .before .before .before .before .pre .0) (c .before .before .before .before .before .before .before .before .before .before .before .before .before .before .args .a) (c .before .before .before .before .before .before .before .before .before .before .before .before .before .before .args .b) (c .before .before .before .before .before .before .before .before .before .before .before .before .before .before .pre .1) (c .before .before .before .before .before .before .before .before .before .before .before .before .before .before .pre .2) (c .before .before .before .before .before .before .before .before .before .before .before .before .before .before .pre .3) (c .before .before .before .before .before .before .before .before .before .before .before .before .before .before .args .ca) (c .before .before .before .before .before .before .before .before .before .before .before .before .before .before .args .cb) (c .before .before .before .before .before .before .before .before .before .before .before .before .before .before .args .outcome) (c .before .before .before .before .before .nodes-of .result) (c .before .before .before .before .before .nodes-of .ensures .0) (c .before .before .before .opening .result) (c .before .opening2 .result) (c .before .before .before .opening .ensures) (c .before .opening2 .ensures)
+exchange-requires c κs =
+    let z : c .before .before .before .before .before .before .before .before .before .before .before .before .before .before .before .before .before .before .before .before .before .nodes-of .result - 0 ≡ c .before .before .before .before .before .before .before .before .before .before .before .before .before .before .before .before .before .before .before .before .before .nodes-of .result = omega arith in
+    ready (c .before .before .before .before .before .before .before .before .before .before .before .before .before .before .before .before .before .before .before .before .before .before .before .before .before .before .before .before .before .before .args .t .now) (c .before .before .before .before .before .before .before .before .before .before .before .before .before .before .before .before .before .before .before .before .before .before .before .before .before .before .before .before .before .before .pre .0) (c .before .before .before .before .before .before .before .before .before .before .before .before .before .before .before .before .before .before .before .before .before .before .before .before .before .before .before .before .before .before .args .a) (c .before .before .before .before .before .before .before .before .before .before .before .before .before .before .before .before .before .before .before .before .before .before .before .before .before .before .before .before .before .before .args .b) (c .before .before .before .before .before .before .before .before .before .before .before .before .before .before .before .before .before .before .before .before .before .before .before .before .before .before .before .before .before .before .pre .1) (c .before .before .before .before .before .before .before .before .before .before .before .before .before .before .before .before .before .before .before .before .before .before .before .before .before .before .before .before .before .before .pre .2) (c .before .before .before .before .before .before .before .before .before .before .before .before .before .before .before .before .before .before .before .before .before .before .before .before .before .before .before .before .before .before .pre .3) (c .before .before .before .before .before .before .before .before .before .before .before .before .before .before .before .before .before .before .before .before .before .before .before .before .before .before .before .before .before .before .args .ca) (c .before .before .before .before .before .before .before .before .before .before .before .before .before .before .before .before .before .before .before .before .before .before .before .before .before .before .before .before .before .before .args .cb) (c .before .before .before .before .before .before .before .before .before .before .before .before .before .before .before .before .before .before .before .before .before .before .before .before .before .before .before .before .before .before .args .outcome) (c .before .before .before .before .before .before .before .before .before .before .before .before .before .before .before .before .before .before .before .before .before .nodes-of .result) (c .before .before .before .before .before .before .before .before .before .before .before .before .before .before .before .before .before .before .before .before .before .nodes-of .ensures .0) (c .before .before .before .before .before .before .before .before .before .before .before .before .before .before .before .before .before .before .before .before .before .nodes-of .result - 0) z (c .before .before .before .before .before .before .before .before .before .before .before .before .before .before .before .before .before .opening .last .0) (c .before .before .before .before .before .before .before .before .before .before .before .before .before .before .before .before .before .opening .last .1 .0) (c .before .before .before .before .before .before .before .before .before .before .before .opening2 .last .0) (c .before .before .before .before .before .before .before .before .before .before .before .opening2 .last .1 .0) (c .before .before .before .before .before .before .before .before .before .before .before .before .before .before .before .before .before .opening .ensures) (c .before .before .before .before .before .before .before .before .before .before .before .opening2 .ensures)
 
 same-length-3 : tie.Need-same-length-3
 same-length-3 c = search needs
 
 returns-3 : tie.Need-returns-3
 unfolding Right
-returns-3 c = done (c .before .before .before .before .before .before .before .before .before .before .before .before .before .before .before .before .before .args .t .now) (c .before .before .before .before .before .before .before .before .before .before .before .before .before .before .before .before .before .pre .0) (c .before .before .before .before .before .before .before .before .before .before .before .before .before .before .before .before .before .args .a) (c .before .before .before .before .before .before .before .before .before .before .before .before .before .before .before .before .before .args .b) (c .before .before .before .before .before .before .before .before .before .before .before .before .before .before .before .before .before .pre .1) (c .before .before .before .before .before .before .before .before .before .before .before .before .before .before .before .before .before .pre .2) (c .before .before .before .before .before .before .before .before .before .before .before .before .before .before .before .before .before .pre .3) (c .before .before .before .before .before .before .before .before .before .before .before .before .before .before .before .before .before .args .ca) (c .before .before .before .before .before .before .before .before .before .before .before .before .before .before .before .before .before .args .cb) (c .before .before .before .before .before .before .before .before .before .before .before .before .before .before .before .before .before .args .outcome) (c .before .before .before .before .before .before .before .before .nodes-of .result) (c .before .before .before .before .before .before .before .before .nodes-of .ensures .0) (c .before .before .before .before .before .before .opening .result) (c .before .before .before .before .opening2 .result) (c .before .before .before .before .before .before .opening .ensures) (c .before .before .before .before .opening2 .ensures) (c .before .before .before .before .before .before .before .before .before .before .before .before .before .before .own-of .result) (c .before .before .before .before .before .before .before .before .before .before .before .own-of2 .result) (c .before .before .before .before .before .before .before .before .before .before .before .before .before .before .own-of .ensures) (c .before .before .before .before .before .before .before .before .before .before .before .before .before .if1 .left) (c .before .before .before .before .before .before .before .before .before .before .before .own-of2 .ensures) (c .before .before .before .before .before .before .before .before .before .before .if2 .left) (c .before .before .exchange .result) (c .before .before .exchange .last .0) (c .before .before .exchange .ensures)
+returns-3 c =
+    let z : c .before .before .before .before .before .before .before .before .before .before .before .before .before .before .before .before .before .before .before .before .before .before .before .before .nodes-of .result - 0 ≡ c .before .before .before .before .before .before .before .before .before .before .before .before .before .before .before .before .before .before .before .before .before .before .before .before .nodes-of .result = omega arith in
+    done (c .before .before .before .before .before .before .before .before .before .before .before .before .before .before .before .before .before .before .before .before .before .before .before .before .before .before .before .before .before .before .before .before .before .args .t .now) (c .before .before .before .before .before .before .before .before .before .before .before .before .before .before .before .before .before .before .before .before .before .before .before .before .before .before .before .before .before .before .before .before .before .pre .0) (c .before .before .before .before .before .before .before .before .before .before .before .before .before .before .before .before .before .before .before .before .before .before .before .before .before .before .before .before .before .before .before .before .before .args .a) (c .before .before .before .before .before .before .before .before .before .before .before .before .before .before .before .before .before .before .before .before .before .before .before .before .before .before .before .before .before .before .before .before .before .args .b) (c .before .before .before .before .before .before .before .before .before .before .before .before .before .before .before .before .before .before .before .before .before .before .before .before .before .before .before .before .before .before .before .before .before .pre .1) (c .before .before .before .before .before .before .before .before .before .before .before .before .before .before .before .before .before .before .before .before .before .before .before .before .before .before .before .before .before .before .before .before .before .pre .2) (c .before .before .before .before .before .before .before .before .before .before .before .before .before .before .before .before .before .before .before .before .before .before .before .before .before .before .before .before .before .before .before .before .before .pre .3) (c .before .before .before .before .before .before .before .before .before .before .before .before .before .before .before .before .before .before .before .before .before .before .before .before .before .before .before .before .before .before .before .before .before .args .ca) (c .before .before .before .before .before .before .before .before .before .before .before .before .before .before .before .before .before .before .before .before .before .before .before .before .before .before .before .before .before .before .before .before .before .args .cb) (c .before .before .before .before .before .before .before .before .before .before .before .before .before .before .before .before .before .before .before .before .before .before .before .before .before .before .before .before .before .before .before .before .before .args .outcome) (c .before .before .before .before .before .before .before .before .before .before .before .before .before .before .before .before .before .before .before .before .before .before .before .before .nodes-of .result) (c .before .before .before .before .before .before .before .before .before .before .before .before .before .before .before .before .before .before .before .before .before .before .before .before .nodes-of .ensures .0) (c .before .before .before .before .before .before .before .before .before .before .before .before .before .before .before .before .before .before .before .before .before .before .before .before .nodes-of .result - 0) z (c .before .before .before .before .before .before .before .before .before .before .before .before .before .before .before .before .before .before .before .before .opening .last .0) (c .before .before .before .before .before .before .before .before .before .before .before .before .before .before .before .before .before .before .before .before .opening .last .1 .0) (c .before .before .before .before .before .before .before .before .before .before .before .before .before .before .opening2 .last .0) (c .before .before .before .before .before .before .before .before .before .before .before .before .before .before .opening2 .last .1 .0) (c .before .before .before .before .before .before .before .before .before .before .before .before .before .before .before .before .before .before .before .before .opening .ensures) (c .before .before .before .before .before .before .before .before .before .before .before .before .before .before .opening2 .ensures)
+    (c .before .before .before .before .before .before .before .before .before .before .before .before .before .before .before .before .before .before .before .before .before .before .before .before .before .before .before .before .before .before .own-of .result) (c .before .before .before .before .before .before .before .before .before .before .before .before .before .before .before .before .before .before .before .before .before .before .before .before .before .before .before .own-of2 .result) (c .before .before .before .before .before .before .before .before .before .before .before .before .before .before .before .before .before .before .before .before .before .before .before .before .before .before .before .before .before .before .own-of .ensures) (c .before .before .before .before .before .before .before .before .before .before .before .before .before .before .before .before .before .before .before .before .before .before .before .before .before .before .before .before .before .if1 .left) (c .before .before .before .before .before .before .before .before .before .before .before .before .before .before .before .before .before .before .before .before .before .before .before .before .before .before .before .own-of2 .ensures) (c .before .before .before .before .before .before .before .before .before .before .before .before .before .before .before .before .before .before .before .before .before .before .before .before .before .before .if2 .left) (c .before .before .exchange .result) (c .before .before .exchange .last .0) (c .before .before .exchange .ensures)
 
 pub meet-spec : {M : Type 1} → statement M
 meet-spec =
@@ -112,8 +175,24 @@ meet-spec =
     same-length-2
     returns-2
     nodes-of-requires
+    slice-aggregate-opening
+    slice-aggregate-opening-2
     opening-requires
+    slice-aggregate-opening-3
+    slice-aggregate-opening-4
     opening-requires-2
+    sub-exchange
+    part-exchange-start
+    part-exchange-end
+    sub-exchange-2
+    part-exchange-start-2
+    part-exchange-end-2
+    sub-exchange-3
+    part-exchange-start-3
+    part-exchange-end-3
+    sub-exchange-4
+    part-exchange-start-4
+    part-exchange-end-4
     exchange-requires
     same-length-3
     returns-3)
