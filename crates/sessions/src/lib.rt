@@ -25,7 +25,7 @@ use rows::row::put_raised;
 use rows::row::put_row;
 use rows::row::put_word;
 
-// Fills a row with one of a table, all 16 words of it, a length that needs no loop, and changes one word.
+// Fills a row with one of a table and changes one word. All 16 words are copied, whatever n is: a fixed length compiles to a few moves.
 fn row_with(row: &mut [u32], t: &[u32], at: usize, i: usize, v: u32)
     requires { ⌜ (length (now row) ≡ nodesMost) × (at + nodesMost ≤ length (now t)) × (i < nodesMost) ⌝ }
     ensures { λ _. ⌜ now (row .exit) ≡ lib.ListN.set (Rattle.meaning.specs.Table.part at nodesMost (now (t .entry))) i v ⌝ }
