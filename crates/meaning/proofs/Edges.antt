@@ -4,14 +4,13 @@
 use mathlib.Core.Path.{_≡_, refl}
 use mathlib.Core.Bool.{Bool, true, false, _&&_}
 use mathlib.Core.List.{List, [], _∷_, _++_, map}
-use Prim.Native.Nat.{ℕ, zero, suc, _+_, _*_}
+use Prim.Native.Nat.{ℕ, suc, _+_, _*_}
 use Prim.Native.String.{String}
-use lib.ListN.{length}
 use lib.Dec.{T, eqb, eqb→eq}
 use Rattle.meaning.specs.declared.Action.{Action}
 use Rattle.meaning.specs.declared.Action.the-variants.{Write, Session, Purge}
 use Rattle.meaning.specs.Rows.{ascii, every, keep, least, raise, covers, newer, above, recordAt, records, words}
-use Rattle.meaning.specs.Table.{summaryAt, acksAt, heldAt, logAt, part, place, count, held, node, putNode, fresh, freshRefusal, madeFresh, recordSound, logSound, sound}
+use Rattle.meaning.specs.Table.{summaryAt, acksAt, heldAt, logAt, part, place, count, held, node, putNode, fresh, recordSound, logSound, sound}
 use Rattle.meaning.specs.Node.{own, wrote, opened, finished, purged}
 use Rattle.meaning.specs.Steps.{outcomeAbove, nodeAbsent, nodeTwice, clockBack, noRoom, refusal, limit, acted, reported, reply, after, replyValues}
 use Rattle.meaning.specs.Frames.{

@@ -1,5 +1,5 @@
 -- Refusals are from document 01's lists, and no step changes a word that belongs to no node below n.
-use mathlib.Core.Path.{_≡_, refl, sym, ap, _∙_}
+use mathlib.Core.Path.{_≡_, refl, ap, _∙_}
 use mathlib.Core.Bool.{Bool, true, false, not, _&&_, _||_}
 use mathlib.Core.List.{List}
 use Prim.Native.Nat.{ℕ, zero, suc, _+_, _*_, _%_, _≤_, _<_}
@@ -9,7 +9,7 @@ use lib.Dec.{leb, ltb, eqb}
 use Rattle.meaning.specs.declared.Action.{Action}
 use Rattle.meaning.specs.declared.Action.the-variants.{Write, Session, Purge}
 use Rattle.meaning.specs.Rows.{given}
-use Rattle.meaning.specs.Table.{Node, tableWords, nodesMost, logMost, summaryAt, acksAt, heldAt, logAt, count, node, putNode, sound, countRight}
+use Rattle.meaning.specs.Table.{Node, logMost, summaryAt, acksAt, heldAt, logAt, count, node, putNode, sound, countRight}
 use Rattle.meaning.specs.Node.{wrote, purged}
 use Rattle.meaning.specs.Steps.{outcomeAbove, nodeAbsent, nodeTwice, clockBack, noRoom, refusal, limit, acted, after}
 use Rattle.meaning.specs.Frames.{allDigits, bytesOf, total, kinds, digitsOf, lineKind, lineFields, lineRefusal}

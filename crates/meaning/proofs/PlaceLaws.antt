@@ -1,13 +1,13 @@
 -- Laws of `part` and `place`: what is read of a list after another was put over some of its words. Callers use these laws and never open the two.
 use mathlib.Core.Path.{_≡_, refl, sym, ap, _∙_}
-use mathlib.Core.List.{List, [], _∷_, _++_, append-assoc, append-nil}
-use Prim.Native.Nat.{ℕ, zero, suc, _+_, _-_, _*_, _≤_, _<_, min}
+use mathlib.Core.List.{List, [], _∷_, _++_, append-nil}
+use Prim.Native.Nat.{ℕ, _+_, _-_, _≤_, _<_}
 use native.Mathlib.Nat.{add-zero, zero-add}
 use native.Mathlib.Numerals.{add-one}
 use native.Mathlib.Omega.{arith}
 use native.Mathlib.Decide.{decLe, decLt}
 use lib.ListN.{length, getD, take, drop, set, length-append, length-take, length-drop, List·getD-append, take-append-drop}
-use lib.Seq.{getD-take, getD-drop, getD-append-add, ext-getD, length-take-le, take-append-seam, drop-at, drop-drop, take-take, drop-cons, take-suc}
+use lib.Seq.{getD-take, getD-drop, getD-append-add, ext-getD, length-take-le, drop-drop}
 use lib.Seq.{set-split, drop-length}
 use Rattle.meaning.specs.Table.{part, place}
 

@@ -5,28 +5,14 @@ use Prim.Native.Nat.{ℕ, zero, suc, _+_, _-_, _*_, _≤_, _<_}
 use native.Mathlib.Nat.{add-zero}
 use native.Mathlib.Numerals.{towards-suc}
 use native.Mathlib.Omega.{arith}
-use lib.ListN.{length, getD, set, take, drop, replicate, length-set, length-take, length-append, length-replicate}
+use lib.ListN.{length, getD, set, take, drop, replicate, length-take, length-append, length-replicate}
 use lib.Seq.{take-suc, take-take, drop-cons}
 use Rattle.meaning.specs.declared.Record.{Record}
 use Rattle.meaning.specs.Rows.{recordAt, records, words, above}
 use Rattle.meaning.specs.Table.{Node, tableWords, nodesMost, logMost, summaryAt, acksAt, heldAt, logAt, part, place, count, held, node, putNode}
-use Rattle.meaning.specs.Node.{wrote, opened, finished, purged}
-use Rattle.meaning.proofs.PlaceLaws.{
-  length-place,
-  getD-away,
-  getD-within,
-  getD-part,
-  length-part,
-  part-same,
-  part-away,
-  place-part,
-  place-append,
-  place-none,
-  place-over,
-  place-inner,
-  set-place,
-}
-use Rattle.meaning.proofs.RowLaws.{length-records, length-words, length-above, words-append, words-none}
+use Rattle.meaning.specs.Node.{wrote, purged}
+use Rattle.meaning.proofs.PlaceLaws.{length-place, length-part, part-away, place-part, place-append, place-none, place-inner, set-place}
+use Rattle.meaning.proofs.RowLaws.{length-words, length-above, words-append, words-none}
 use Rattle.meaning.proofs.TableLaws.{Sound, log-length, logWords}
 
 -- four elements more of a beginning

@@ -1,15 +1,15 @@
 -- Laws of records and their words, of `keep`, and of tests over a whole list.
 use mathlib.Core.Path.{_≡_, refl, sym, ap, _∙_}
 use mathlib.Core.Bool.{Bool, true, false, not, _&&_, false≢true, and-true}
-use mathlib.Core.List.{List, [], _∷_, _++_, append-assoc, append-nil}
+use mathlib.Core.List.{List, [], _∷_, _++_}
 use Prim.Native.Nat.{ℕ, zero, suc, _+_, _-_, _*_, _≤_, _<_, min, max}
 use native.Mathlib.Nat.{add-zero}
 use native.Mathlib.Numerals.{add-one}
 use native.Mathlib.Omega.{arith}
 use native.Mathlib.Decide.{decLe, decLt}
 use borrow.Author.Tests.{le-ltb, lt-ltb, le-leb, lt-leb}
-use lib.ListN.{length, getD, take, drop, length-append, List·getD-append}
-use lib.Seq.{ext-getD, getD-append-add, getD-append-seam, getD-take, getD-at, take-suc, length-take-le}
+use lib.ListN.{length, getD, take, length-append, List·getD-append}
+use lib.Seq.{ext-getD, getD-take, getD-at, take-suc, length-take-le}
 use lib.Dec.{leb, ltb}
 use Rattle.meaning.specs.declared.Record.{Record}
 use Rattle.meaning.specs.Rows.{given, every, keep, keepIf, least, raise, covers, newer, above, recordAt, records, words}

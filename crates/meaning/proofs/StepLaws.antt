@@ -1,20 +1,18 @@
 -- Laws of steps: what an accepted step is known to meet, the node that each action leaves, and that a sound table stays sound.
 use mathlib.Core.Path.{_≡_, refl, sym, ap, _∙_}
-use mathlib.Core.Bool.{Bool, true, false, not, _&&_, _||_, false≢true, true≢false, and-true}
+use mathlib.Core.Bool.{Bool, true, false, not, _&&_, _||_, true≢false, and-true}
 use mathlib.Core.List.{List, [], _∷_, _++_, append-nil}
-use Prim.Native.Nat.{ℕ, zero, suc, _+_, _-_, _*_, _≤_, _<_, max}
-use native.Mathlib.Decide.{ℕ-discrete}
+use Prim.Native.Nat.{ℕ, zero, suc, _+_, _-_, _*_, _≤_, _<_}
 use native.Mathlib.Omega.{arith}
-use borrow.Author.Tests.{leb-true, leb-false, ltb-true, ltb-false, eqb-false, le-leb, lt-ltb, not-false}
+use borrow.Author.Tests.{leb-false, ltb-false, eqb-false, le-leb, lt-ltb, not-false}
 use lib.Seq.{take-at}
-use lib.ListN.{length, getD, set, take, replicate, length-set, length-append, length-replicate, getD-replicate}
+use lib.ListN.{length, getD, take, length-set, length-append, length-replicate, getD-replicate}
 use lib.Dec.{leb, ltb, eqb}
 use Rattle.meaning.specs.declared.Record.{Record}
 use Rattle.meaning.specs.declared.Action.{Action}
 use Rattle.meaning.specs.declared.Action.the-variants.{Write, Session, Purge}
-use Rattle.meaning.specs.declared.Reply.{Reply}
 use Rattle.meaning.specs.declared.Reply.the-variants.{Refused}
-use Rattle.meaning.specs.Rows.{given, keep, raise, least, newer, above, covers, records, unless}
+use Rattle.meaning.specs.Rows.{given, newer, above, records}
 use Rattle.meaning.specs.Table.{Node, tableWords, nodesMost, logMost, countAt, heldAt, logAt, part, count, held, node, putNode, fresh, recordSound, sound}
 use Rattle.meaning.specs.Node.{own, wrote, opened, sent, finished, ended, purged}
 use Rattle.meaning.specs.Steps.{finishesA, finishesB, outcomeAbove, nodeAbsent, nodeTwice, clockBack, overfull, noRoom, refusal, limit, acted, reported, reply, after}

@@ -1,48 +1,18 @@
 -- Laws of a table and its nodes: a node that was put is read again, another is as it was, and soundness is kept.
 use mathlib.Core.Path.{_≡_, refl, sym, ap, _∙_}
-use mathlib.Core.Bool.{Bool, true, false, not, _&&_}
-use mathlib.Core.List.{List, [], _∷_, _++_, append-assoc}
-use Prim.Native.Nat.{ℕ, zero, suc, _+_, _-_, _*_, _≤_, _<_}
+use mathlib.Core.Bool.{Bool, true, _&&_}
+use mathlib.Core.List.{List, [], _∷_, _++_}
+use Prim.Native.Nat.{ℕ, _+_, _-_, _*_, _≤_, _<_}
 use native.Mathlib.Decide.{ℕ-discrete}
 use native.Mathlib.Omega.{arith}
 use borrow.Author.Tests.{leb-true, ltb-true, eqb-true, le-leb, eq-eqb}
-use lib.ListN.{length, getD, replicate, length-append, length-replicate, getD-replicate, List·getD-append}
+use lib.ListN.{length, getD, replicate, length-append, length-replicate, List·getD-append}
 use lib.Dec.{leb, ltb, eqb}
 use Rattle.meaning.specs.declared.Record.{Record}
-use Rattle.meaning.specs.Rows.{every, recordAt, records, words}
-use Rattle.meaning.specs.Table.{
-  Node,
-  tableWords,
-  nodesMost,
-  logMost,
-  countAt,
-  summaryAt,
-  acksAt,
-  heldAt,
-  logAt,
-  part,
-  place,
-  count,
-  held,
-  node,
-  putNode,
-  fresh,
-  countRight,
-  recordSound,
-  logSound,
-  sound,
-}
-use Rattle.meaning.proofs.PlaceLaws.{
-  length-place,
-  getD-away,
-  getD-within,
-  getD-part,
-  length-part,
-  part-same,
-  part-away,
-  place-append,
-}
-use Rattle.meaning.proofs.RowLaws.{all, and-left, and-right, and-both, every-records, every-at, every-all, length-records, length-words, records-agree, records-words, getD-records}
+use Rattle.meaning.specs.Rows.{every, records, words}
+use Rattle.meaning.specs.Table.{Node, tableWords, nodesMost, logMost, countAt, summaryAt, acksAt, heldAt, logAt, part, place, count, held, node, putNode, countRight, recordSound, logSound, sound}
+use Rattle.meaning.proofs.PlaceLaws.{length-place, getD-away, getD-within, getD-part, length-part, part-same, part-away}
+use Rattle.meaning.proofs.RowLaws.{all, and-left, and-right, and-both, every-records, every-at, every-all, length-records, length-words, records-agree, records-words}
 
 -- A sound table, as facts. `sound` is the test that code returns and contracts cite.
 pub record Sound (t : List ℕ) : Type 0 where

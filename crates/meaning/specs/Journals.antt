@@ -3,7 +3,7 @@
 use mathlib.Core.Bool.{Bool, true, false, not, _&&_, _||_, cond}
 use mathlib.Core.List.{List, [], _∷_, _++_}
 use Prim.Native.Nat.{ℕ, zero, suc, _+_, _/_, _%_}
-use lib.ListN.{length, getD, drop}
+use lib.ListN.{length, drop}
 use Prim.Native.String.{String}
 use lib.Dec.{leb, ltb, eqb}
 use Rattle.meaning.specs.declared.Step.{Step}

@@ -1,13 +1,12 @@
 -- Steps on a table: the refusal number, the reply and the words at exit, for every list of words and every action.
 -- Document 01, "The three actions" and "Refusal numbers and their order".
-use mathlib.Core.Bool.{Bool, true, false, not, _&&_, _||_, cond}
+use mathlib.Core.Bool.{Bool, false, not, _&&_, _||_, cond}
 use mathlib.Core.List.{List, [], _∷_}
 use Prim.Native.Nat.{ℕ, zero, suc, _-_}
 use lib.ListN.{length}
 use lib.Dec.{leb, ltb, eqb}
 use Rattle.meaning.specs.declared.Action.{Action}
 use Rattle.meaning.specs.declared.Action.the-variants.{Write, Session, Purge}
-use Rattle.meaning.specs.declared.Step.{Step}
 use Rattle.meaning.specs.declared.Reply.{Reply}
 use Rattle.meaning.specs.declared.Reply.the-variants.{Written, Carried, Purged, Refused}
 use Rattle.meaning.specs.Rows.{given, unless, least}

@@ -1,6 +1,6 @@
 -- Laws of what C is told of a table that it looks into: each answer from the words that the code reads.
 use mathlib.Core.Path.{_≡_, refl, sym, ap, _∙_}
-use mathlib.Core.Bool.{Bool, true, false, not, _&&_, cond}
+use mathlib.Core.Bool.{Bool, true, false, not}
 use mathlib.Core.List.{List, [], _∷_}
 use Prim.Native.Nat.{ℕ, zero, suc, _+_, _*_, _<_, _≤_}
 use native.Mathlib.Omega.{arith}
@@ -9,7 +9,7 @@ use lib.ListN.{length, getD, List·getD-eq-default}
 use lib.Dec.{ltb}
 use Rattle.meaning.specs.declared.Record.{Record}
 use Rattle.meaning.specs.Rows.{recordAt, words}
-use Rattle.meaning.specs.Table.{tableWords, nodesMost, logMost, summaryAt, acksAt, logAt, part, count, held, node, sound}
+use Rattle.meaning.specs.Table.{nodesMost, logMost, summaryAt, acksAt, logAt, part, count, held, node, sound}
 use Rattle.meaning.proofs.PlaceLaws.{getD-part, length-part}
 use Rattle.meaning.proofs.RowLaws.{and-left, and-right, getD-records}
 use Rattle.meaning.proofs.TableLaws.{Sound, sound-facts, held-log}

@@ -13,8 +13,6 @@ use denote.Laws.{Is}
 use mir.Val.{Val}
 use Rattle.meaning.specs.declared.Action.{Action}
 use Rattle.meaning.specs.declared.Action.the-variants.{Write, Session, Purge}
-use Rattle.meaning.specs.declared.Reply.{Reply}
-use Rattle.meaning.specs.declared.Reply.the-variants.{Refused}
 use Rattle.meaning.specs.declared.Step.{Step}
 use Rattle.meaning.specs.declared.Next.the-variants.{Begin as BeginAt, Act as ActAt, Refused as RefusedAt, End}
 use Rattle.meaning.specs.declared.Outcome.the-variants.{Bad, Done}

@@ -1,6 +1,5 @@
 -- `sessions::finishes` meets its contract: the first test, or else the second.
 use borrow.Author.Tests.{eq-eqb, ne-eqb}
-use borrow.Author.Needs.{needs}
 use Rattle.sessions.proofs.finishes.Statement.{statement}
 use Rattle.sessions.proofs.finishes.Tie as tie
 use Rattle.sessions.proofs.finishes.Reads as reads

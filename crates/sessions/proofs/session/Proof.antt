@@ -1,11 +1,11 @@
 -- `sessions::session` meets its contract: the refusals in their order, or the meeting.
-use mathlib.Core.Path.{_≡_, refl, ap, ap₂, sym, _∙_}
-use mathlib.Core.Bool.{Bool, true, false, _||_, or-true}
+use mathlib.Core.Path.{_≡_, ap, sym, _∙_}
+use mathlib.Core.Bool.{or-true}
 use mathlib.Core.List.{List}
 use Prim.Native.Nat.{ℕ, _<_, _≤_}
 use native.Mathlib.Omega.{arith}
 use borrow.Author.Tests.{lt-ltb, le-ltb, le-leb, lt-leb, eq-eqb, ne-eqb}
-use lib.Dec.{ltb, leb, eqb}
+use lib.Dec.{leb}
 use Rattle.meaning.specs.declared.Reply.{Reply}
 use Rattle.meaning.specs.declared.Reply.the-variants.{Refused}
 use Rattle.meaning.specs.declared.Action.the-variants.{Session}

@@ -1,8 +1,6 @@
 -- `table::apply` meets its contract: 1 where the scan finds the table unsound, or what the action does.
-use mathlib.Core.Path.{_≡_, sym, _∙_}
-use mathlib.Core.Bool.{Bool, true, false, not}
+use mathlib.Core.Path.{sym, _∙_}
 use borrow.Author.Tests.{not-true, not-false}
-use Rattle.meaning.specs.Table.{sound}
 use Rattle.meaning.proofs.TableLaws.{sound-facts}
 use Rattle.meaning.proofs.StepLaws.{refuse, unsound-refusal}
 use borrow.Author.Needs.{needs}

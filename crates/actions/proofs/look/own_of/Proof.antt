@@ -1,10 +1,10 @@
 -- `actions::look::own_of` meets its contract: the entry of the row is the word at the row's place and p.
-use mathlib.Core.Path.{_≡_, sym, ap, _∙_}
-use Prim.Native.Nat.{ℕ, _+_, _*_, _<_}
+use mathlib.Core.Path.{_≡_, sym}
+use Prim.Native.Nat.{ℕ, _+_, _<_}
 use native.Mathlib.Omega.{arith}
 use mathlib.Core.List.{List}
 use lib.ListN.{getD}
-use Rattle.meaning.specs.Table.{count, node, part, summaryAt}
+use Rattle.meaning.specs.Table.{count, node, summaryAt}
 use Rattle.meaning.specs.Node.{own}
 use Rattle.meaning.proofs.PlaceLaws.{getD-part}
 use borrow.Author.Needs.{needs}

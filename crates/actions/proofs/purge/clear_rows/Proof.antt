@@ -1,8 +1,8 @@
 -- `actions::purge::clear_rows` meets its contract: the rows that were lent come back as zeros.
-use mathlib.Core.Path.{_≡_, sym, ap, ap₂, _∙_, refl}
+use mathlib.Core.Path.{_≡_, ap, ap₂, _∙_}
 use Prim.Native.Nat.{ℕ, _+_, _*_, _-_, _<_, _≤_}
 use native.Mathlib.Omega.{arith}
-use mathlib.Core.List.{List, [], _∷_, _++_}
+use mathlib.Core.List.{List, _++_}
 use lib.ListN.{length, take, drop, replicate, length-take, length-drop, length-replicate}
 use Rattle.meaning.specs.Table.{place, logAt, tableWords, nodesMost, logMost}
 use Rattle.meaning.proofs.PlaceLaws.{mid-place}

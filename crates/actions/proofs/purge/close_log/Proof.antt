@@ -1,17 +1,16 @@
 -- `actions::purge::close_log` meets its contract: the log that was lent comes back closed up.
-use mathlib.Core.Path.{_≡_, sym, ap, ap₂, _∙_, refl}
+use mathlib.Core.Path.{_≡_, sym, ap, ap₂, _∙_}
 use Prim.Native.Nat.{ℕ, _+_, _*_, _-_, _<_, _≤_}
 use native.Mathlib.Omega.{arith}
 use native.Mathlib.Nat.{add-zero}
-use mathlib.Core.List.{List, [], _∷_, _++_}
-use lib.ListN.{length, take, drop, replicate, length-take, length-drop, length-replicate}
+use mathlib.Core.List.{List, _++_}
+use lib.ListN.{length, take, drop}
 use Rattle.meaning.specs.declared.Record.{Record}
 use Rattle.meaning.specs.Rows.{above, records, words}
-use Rattle.meaning.specs.Table.{Node, count, held, node, part, place, putNode, logAt, heldAt, tableWords, nodesMost, logMost}
+use Rattle.meaning.specs.Table.{count, held, node, part, place, logAt, tableWords, logMost}
 use Rattle.meaning.proofs.PlaceLaws.{mid-place, place-inner, length-place, length-part}
 use Rattle.meaning.proofs.RowLaws.{length-above, length-words}
 use Rattle.meaning.proofs.TableLaws.{Sound, held-log}
-use Rattle.meaning.proofs.PutLaws.{purge-put}
 use borrow.Author.Needs.{needs}
 use Rattle.actions.proofs.purge.close_log.Statement.{statement}
 use Rattle.actions.proofs.purge.close_log.Tie as tie

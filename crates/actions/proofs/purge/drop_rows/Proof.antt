@@ -1,12 +1,11 @@
 -- `actions::purge::drop_rows` meets its contract: three writes that together put the purged node.
-use mathlib.Core.Path.{_≡_, sym, ap, ap₂, _∙_, refl}
-use Prim.Native.Nat.{ℕ, _+_, _*_, _-_, _<_, _≤_}
+use mathlib.Core.Path.{_≡_, ap₂, _∙_}
+use Prim.Native.Nat.{ℕ, _+_, _*_, _-_, _<_}
 use mathlib.Core.List.{List, [], _∷_}
 use lib.ListN.{length, replicate}
-use Rattle.meaning.specs.declared.Record.{Record}
 use Rattle.meaning.specs.Rows.{above, words}
 use Rattle.meaning.specs.Node.{purged}
-use Rattle.meaning.specs.Table.{Node, count, held, node, place, putNode, logAt, heldAt}
+use Rattle.meaning.specs.Table.{count, held, node, place, putNode, logAt, heldAt}
 use Rattle.meaning.proofs.TableLaws.{Sound}
 use Rattle.meaning.proofs.PutLaws.{purge-put}
 use borrow.Author.Needs.{needs}

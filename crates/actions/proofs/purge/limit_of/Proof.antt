@@ -1,12 +1,12 @@
 -- `actions::purge::limit_of` meets its contract: the part that is lent is the node's row.
-use mathlib.Core.Path.{_≡_, sym, ap, ap₂, _∙_, refl}
-use Prim.Native.Nat.{ℕ, _+_, _*_, _-_, _<_, _≤_}
+use mathlib.Core.Path.{_≡_, ap, ap₂, _∙_}
+use Prim.Native.Nat.{ℕ, _+_, _-_, _<_, _≤_}
 use native.Mathlib.Omega.{arith}
 use mathlib.Core.List.{List}
 use lib.ListN.{length, take, drop, length-take, length-drop}
 use Rattle.meaning.specs.Rows.{least}
 use Rattle.meaning.specs.Steps.{limit}
-use Rattle.meaning.specs.Table.{count, node, part, acksAt, tableWords, nodesMost}
+use Rattle.meaning.specs.Table.{count, node, part, acksAt}
 use Rattle.meaning.proofs.TableLaws.{Sound}
 use borrow.Author.Needs.{needs}
 use Rattle.actions.proofs.purge.limit_of.Statement.{statement}

@@ -1,15 +1,14 @@
 -- `actions::purge::purge` meets its contract: refused by its one test, or the purged node put.
-use mathlib.Core.Path.{_≡_, sym, ap, ap₂, _∙_, refl}
-use Prim.Native.Nat.{ℕ, _+_, _*_, _-_, _<_, _≤_}
+use mathlib.Core.Path.{_≡_, ap, ap₂, _∙_}
+use Prim.Native.Nat.{ℕ, _-_, _<_, _≤_}
 use native.Mathlib.Omega.{arith}
-use mathlib.Core.List.{List, [], _∷_}
+use mathlib.Core.List.{List}
 use lib.ListN.{length}
 use borrow.Author.Tests.{le-leb, lt-leb}
-use Rattle.meaning.specs.declared.Reply.{Reply}
 use Rattle.meaning.specs.declared.Reply.the-variants.{Purged, Refused}
 use Rattle.meaning.specs.declared.Action.the-variants.{Purge}
 use Rattle.meaning.specs.Rows.{above}
-use Rattle.meaning.specs.Table.{Node, count, held, node, putNode}
+use Rattle.meaning.specs.Table.{count, held, node, putNode}
 use Rattle.meaning.specs.Node.{purged}
 use Rattle.meaning.specs.Steps.{limit, reply, after, acted, reported}
 use Rattle.meaning.proofs.TableLaws.{Sound, held-log}

@@ -1,9 +1,8 @@
 -- `actions::write::append` meets its contract: three writes that together put the node.
-use mathlib.Core.Path.{_≡_, sym, ap, ap₂, _∙_, refl}
+use mathlib.Core.Path.{_≡_, ap, ap₂, _∙_}
 use Prim.Native.Nat.{ℕ, _+_, _*_, _<_}
 use native.Mathlib.Omega.{arith}
 use mathlib.Core.List.{List, [], _∷_}
-use lib.ListN.{length}
 use Rattle.meaning.specs.declared.Record.{Record}
 use Rattle.meaning.specs.Rows.{words}
 use Rattle.meaning.specs.Table.{count, held, node, place, putNode, summaryAt, heldAt, logAt, logMost}

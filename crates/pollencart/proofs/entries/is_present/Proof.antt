@@ -1,8 +1,6 @@
 -- `is_present` meets its contract: the scan, then the count.
-use mathlib.Core.Path.{_≡_, sym, _∙_}
-use mathlib.Core.Bool.{true}
+use mathlib.Core.Path.{sym, _∙_}
 use borrow.Author.Tests.{not-true, not-false}
-use Rattle.meaning.specs.Table.{sound}
 use Rattle.meaning.proofs.TableLaws.{sound-facts}
 use Rattle.pollencart.proofs.EntryLaws.{unsound-absent, sound-present}
 use borrow.Author.Needs.{needs}

@@ -7,7 +7,7 @@ use lib.ListN.{length, length-append}
 use Rattle.meaning.specs.declared.Record.{Record}
 use Rattle.meaning.specs.Rows.{newer, recordAt, records, words}
 use Rattle.meaning.specs.Table.{logMost, part, place, recordSound}
-use Rattle.meaning.proofs.PlaceLaws.{place-none, place-append, length-place, part-away}
+use Rattle.meaning.proofs.PlaceLaws.{place-none, place-append, part-away}
 use Rattle.meaning.proofs.RowLaws.{newer-row, newer-none, newer-grows, words-none, words-append, length-words, length-newer, length-records, all-row}
 use Rattle.meaning.proofs.TableLaws.{origin-below}
 use Rattle.rows.specs.Carry.{Carries, CarriesAll}

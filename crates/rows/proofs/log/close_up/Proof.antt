@@ -1,13 +1,13 @@
 -- `rows::log::close_up` meets its contract: the invariant says that the rows passed are closed up and the rest is as it was.
-use mathlib.Core.Path.{_≡_, refl, ap, ap₂, sym, _∙_}
+use mathlib.Core.Path.{_≡_, refl, ap, sym, _∙_}
 use mathlib.Core.List.{List, [], _∷_, _++_}
-use Prim.Native.Nat.{ℕ, _+_, _*_, _-_, _≤_, _<_}
+use Prim.Native.Nat.{ℕ, _+_, _*_, _-_, _≤_}
 use native.Mathlib.Omega.{arith}
-use lib.ListN.{length, length-append, getD}
+use lib.ListN.{length, length-append}
 use Rattle.meaning.specs.declared.Record.{Record}
 use Rattle.meaning.specs.Rows.{above, recordAt, records, words}
 use Rattle.meaning.specs.Table.{place}
-use Rattle.meaning.proofs.PlaceLaws.{place-none, place-append, length-place, getD-beyond}
+use Rattle.meaning.proofs.PlaceLaws.{place-none, place-append, getD-beyond}
 use Rattle.meaning.proofs.RowLaws.{above-row, above-none, words-none, words-append, length-words, length-above, length-records, recordAt-agree}
 use borrow.Author.Needs.{needs}
 use Rattle.rows.proofs.log.close_up.Statement.{statement}

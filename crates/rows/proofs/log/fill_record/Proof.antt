@@ -1,10 +1,9 @@
 -- `rows::log::fill_record` meets its contract: four stores over a list of four words leave the record's words.
 use mathlib.Core.Path.{_≡_, refl}
 use mathlib.Core.List.{List, [], _∷_}
-use Prim.Native.Nat.{ℕ, zero, suc}
+use Prim.Native.Nat.{ℕ}
 use native.Mathlib.Omega.{arith}
 use lib.ListN.{length, set}
-use Rattle.meaning.specs.declared.Record.{Record}
 use Rattle.meaning.specs.Rows.{words}
 use borrow.Author.Needs.{needs}
 use Rattle.rows.proofs.log.fill_record.Statement.{statement}

@@ -1,10 +1,10 @@
 -- `rows::row::copy_row` meets its contract: the entries passed are the other row's.
 use mathlib.Core.Path.{_≡_, refl, ap, sym, _∙_}
-use mathlib.Core.List.{List, [], _∷_, _++_, append-nil}
-use Prim.Native.Nat.{ℕ, suc, _+_, _-_, _≤_, _<_}
+use mathlib.Core.List.{List, [], _∷_}
+use Prim.Native.Nat.{ℕ, _+_, _-_, _≤_, _<_}
 use native.Mathlib.Numerals.{add-one}
 use native.Mathlib.Omega.{arith}
-use lib.ListN.{length, take, drop, set, getD, length-set}
+use lib.ListN.{length, take, set, getD, length-set}
 use lib.Seq.{take-length, length-take-le, take-suc}
 use Rattle.meaning.specs.Table.{place}
 use Rattle.meaning.proofs.PlaceLaws.{set-place, place-append, place-none, place-all}
