@@ -10,11 +10,7 @@ write-start-requires : tie.Need-write-start-requires
 write-start-requires c κs = search needs
 
 report-requires : tie.Need-report-requires
-report-requires c κs =
-    let at-write-start = c .before .before .before in
-    let start = at-write-start .before .before .before in
-    short (at-write-start .write-start .result) (startReply (start .args .out .now) (start .args .n)) (at-write-start .write-start .ensures .0)
-    (value-start (start .args .out .now) (start .args .n))
+report-requires c κs = short _ _ (c .before .before .before .write-start .ensures .0) (value-start _ _)
 
 same-length : tie.Need-same-length
 same-length c = search needs
