@@ -1,10 +1,12 @@
 // Frames for C: check a line, its kind and fields, and write each kind of frame. Thin over the crate `frames`.
 ghost use mathlib.Core.Path.{_≡_};
-ghost use Prim.Native.Nat.{_+_, _≤_};
+ghost use mathlib.Core.List.{[], _∷_};
+ghost use Prim.Native.Nat.{_+_};
 ghost use lib.ListN.{getD};
 ghost use Rattle.meaning.specs.declared.Action.the-variants.{Write, Session, Purge};
-ghost use Rattle.meaning.specs.Frames.{readLine, lineRefusal, lineValues, framedValues, frameReply, frameAfter, startReply, startAfter};
-use meaning::Framed;
+ghost use Rattle.meaning.specs.Frames.{readLine, lineRefusal, lineValues};
+ghost use Rattle.answers.specs.Told.{Framed, Started};
+use answers::report;
 
 // 0 for a line that reads as a start or a step, else the number of its refusal.
 #[no_mangle]
@@ -30,27 +32,10 @@ pub extern "C" fn pollencart_field(line: &[u8], index: u32) -> u32
     frames::field(line, index)
 }
 
-// The writer's answer for C: the refusal number, 0 for none, and the length through the reference, 0 if refused.
-fn report(answer: Framed, length: &mut u32) -> u32
-    requires { ⌜ getD (framedValues answer) 1 0 ≤ 27 ⌝ }
-    ensures { λ r. ⌜ (r ≡ getD (framedValues answer) 0 0) × (now (length .exit) ≡ getD (framedValues answer) 1 0) ⌝ }
-{
-    match answer {
-        Framed::Length { bytes } => {
-            *length = bytes as u32;
-            0
-        }
-        Framed::Refused { number } => {
-            *length = 0;
-            number
-        }
-    }
-}
-
 // Writes a start's frame, LF included, from place 0.
 #[no_mangle]
 pub extern "C" fn pollencart_frame_start(out: &mut [u8], n: u8, length: &mut u32) -> u32
-    ensures { λ r. ⌜ (r ≡ getD (framedValues (startReply (now (out .entry)) n)) 0 0) × (now (length .exit) ≡ getD (framedValues (startReply (now (out .entry)) n)) 1 0) × (now (out .exit) ≡ startAfter (now (out .entry)) n) ⌝ }
+    ensures { λ r. ⌜ Started (now (out .entry)) n (r ∷ now (length .exit) ∷ []) (now (out .exit)) ⌝ }
 {
     let answer = frames::write_start(out, n);
     report(answer, length)
@@ -66,7 +51,7 @@ pub extern "C" fn pollencart_frame_write(
     verdict: u8,
     length: &mut u32,
 ) -> u32
-    ensures { λ r. ⌜ (r ≡ getD (framedValues (frameReply (now (out .entry)) (Write node timestamp block verdict))) 0 0) × (now (length .exit) ≡ getD (framedValues (frameReply (now (out .entry)) (Write node timestamp block verdict))) 1 0) × (now (out .exit) ≡ frameAfter (now (out .entry)) (Write node timestamp block verdict)) ⌝ }
+    ensures { λ r. ⌜ Framed (now (out .entry)) (Write node timestamp block verdict) (r ∷ now (length .exit) ∷ []) (now (out .exit)) ⌝ }
 {
     let answer = frames::write::write(out, node, timestamp, block, verdict);
     report(answer, length)
@@ -83,7 +68,7 @@ pub extern "C" fn pollencart_frame_session(
     outcome: u8,
     length: &mut u32,
 ) -> u32
-    ensures { λ r. ⌜ (r ≡ getD (framedValues (frameReply (now (out .entry)) (Session a b ca cb outcome))) 0 0) × (now (length .exit) ≡ getD (framedValues (frameReply (now (out .entry)) (Session a b ca cb outcome))) 1 0) × (now (out .exit) ≡ frameAfter (now (out .entry)) (Session a b ca cb outcome)) ⌝ }
+    ensures { λ r. ⌜ Framed (now (out .entry)) (Session a b ca cb outcome) (r ∷ now (length .exit) ∷ []) (now (out .exit)) ⌝ }
 {
     let answer = frames::write::session(out, a, b, ca, cb, outcome);
     report(answer, length)
@@ -92,7 +77,7 @@ pub extern "C" fn pollencart_frame_session(
 // Writes a purge's frame, LF included, from place 0.
 #[no_mangle]
 pub extern "C" fn pollencart_frame_purge(out: &mut [u8], node: u8, length: &mut u32) -> u32
-    ensures { λ r. ⌜ (r ≡ getD (framedValues (frameReply (now (out .entry)) (Purge node))) 0 0) × (now (length .exit) ≡ getD (framedValues (frameReply (now (out .entry)) (Purge node))) 1 0) × (now (out .exit) ≡ frameAfter (now (out .entry)) (Purge node)) ⌝ }
+    ensures { λ r. ⌜ Framed (now (out .entry)) (Purge node) (r ∷ now (length .exit) ∷ []) (now (out .exit)) ⌝ }
 {
     let answer = frames::write::purge(out, node);
     report(answer, length)
