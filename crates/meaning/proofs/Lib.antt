@@ -1,6 +1,7 @@
 pub mod Edges
 pub mod PlaceLaws
 pub mod RowLaws
+pub mod RefusalLaws
 pub mod TableLaws
 pub mod StepLaws
 pub mod FrameLaws

@@ -1,4 +1,4 @@
-// Frames for C: check a line, its kind and fields, and write each kind of frame. Thin over the crate `frames`.
+// Frames for C: check a line, its kind and fields, and write each kind of frame. Thin over the crates `reading` and `writing`.
 ghost use mathlib.Core.Path.{_≡_};
 ghost use mathlib.Core.List.{[], _∷_};
 ghost use Prim.Native.Nat.{_+_};
@@ -13,7 +13,7 @@ use answers::report;
 pub extern "C" fn pollencart_check(line: &[u8]) -> u32
     ensures { λ r. ⌜ r ≡ lineRefusal (now (line .entry)) ⌝ }
 {
-    frames::check(line)
+    reading::check(line)
 }
 
 // The kind of a line, 0 for one that is refused. A start's is 0 too: the check tells them apart.
@@ -21,7 +21,7 @@ pub extern "C" fn pollencart_check(line: &[u8]) -> u32
 pub extern "C" fn pollencart_kind(line: &[u8]) -> u32
     ensures { λ r. ⌜ r ≡ getD (lineValues (readLine 0 (now (line .entry)))) 1 0 ⌝ }
 {
-    frames::kind(line)
+    reading::kind(line)
 }
 
 // The field of a line at this place among its kind's fields, from 0; 0 for a refused line and for a field that the kind has not.
@@ -29,7 +29,7 @@ pub extern "C" fn pollencart_kind(line: &[u8]) -> u32
 pub extern "C" fn pollencart_field(line: &[u8], index: u32) -> u32
     ensures { λ r. ⌜ r ≡ getD (lineValues (readLine 0 (now (line .entry)))) (2 + index) 0 ⌝ }
 {
-    frames::field(line, index)
+    reading::field(line, index)
 }
 
 // Writes a start's frame, LF included, from place 0.
@@ -37,7 +37,7 @@ pub extern "C" fn pollencart_field(line: &[u8], index: u32) -> u32
 pub extern "C" fn pollencart_frame_start(out: &mut [u8], n: u8, length: &mut u32) -> u32
     ensures { λ r. ⌜ Started (now (out .entry)) n (r ∷ now (length .exit) ∷ []) (now (out .exit)) ⌝ }
 {
-    let answer = frames::write_start(out, n);
+    let answer = writing::write_start(out, n);
     report(answer, length)
 }
 
@@ -53,7 +53,7 @@ pub extern "C" fn pollencart_frame_write(
 ) -> u32
     ensures { λ r. ⌜ Framed (now (out .entry)) (Write node timestamp block verdict) (r ∷ now (length .exit) ∷ []) (now (out .exit)) ⌝ }
 {
-    let answer = frames::write::write(out, node, timestamp, block, verdict);
+    let answer = writing::write::write(out, node, timestamp, block, verdict);
     report(answer, length)
 }
 
@@ -70,7 +70,7 @@ pub extern "C" fn pollencart_frame_session(
 ) -> u32
     ensures { λ r. ⌜ Framed (now (out .entry)) (Session a b ca cb outcome) (r ∷ now (length .exit) ∷ []) (now (out .exit)) ⌝ }
 {
-    let answer = frames::write::session(out, a, b, ca, cb, outcome);
+    let answer = writing::write::session(out, a, b, ca, cb, outcome);
     report(answer, length)
 }
 
@@ -79,6 +79,6 @@ pub extern "C" fn pollencart_frame_session(
 pub extern "C" fn pollencart_frame_purge(out: &mut [u8], node: u8, length: &mut u32) -> u32
     ensures { λ r. ⌜ Framed (now (out .entry)) (Purge node) (r ∷ now (length .exit) ∷ []) (now (out .exit)) ⌝ }
 {
-    let answer = frames::write::purge(out, node);
+    let answer = writing::write::purge(out, node);
     report(answer, length)
 }
