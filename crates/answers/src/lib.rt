@@ -77,9 +77,9 @@ pub fn report(answer: Framed, length: &mut u32) -> u32
             *length = bytes as u32;
             0
         }
-        Framed::Refused { number } => {
+        Framed::Refused { number: refused } => {
             *length = 0;
-            number
+            refused
         }
     }
 }
