@@ -6,7 +6,8 @@ use Prim.Native.Nat.{ℕ, _+_, _-_, _*_}
 use lib.ListN.{length, getD, take, drop, replicate}
 use lib.Dec.{leb, ltb, eqb}
 use Rattle.meaning.specs.declared.Record.{Record}
-use Rattle.meaning.specs.Rows.{every, given, unless, recordAt, records, words}
+use Rattle.meaning.specs.Rows.{every, unless, recordAt, records, words}
+use Rattle.meaning.specs.Refusals.{test, first}
 
 -- "A lent table of exactly 4,625 words": the count, summaries (16 rows of 16), acknowledgements (the same), held (16), logs (16 × 64 rows of 4)
 abbrev pub tableWords : ℕ
@@ -43,6 +44,10 @@ place at ys t = take at t ++ (ys ++ drop (at + length ys) t)
 unfoldable pub count : List ℕ → ℕ
 count t = getD t countAt 0
 
+-- "a node number is n or more"
+abbrev pub absent : List ℕ → ℕ → Bool
+absent t p = leb (count t) p
+
 unfoldable pub held : List ℕ → ℕ → ℕ
 held t p = getD t (heldAt p) 0
 
@@ -77,7 +82,7 @@ countRight n = leb 2 n && leb n nodesMost
 
 -- "Making one is refused with 1, the lent words unchanged, if the count or the length is wrong."
 unfoldable pub freshRefusal : List ℕ → ℕ → ℕ
-freshRefusal t n = given (not (countRight n && eqb (length t) tableWords)) 1 0
+freshRefusal t n = first (test 1 (not (countRight n)) ∷ test 1 (not (eqb (length t) tableWords)) ∷ [])
 
 unfoldable pub madeFresh : List ℕ → ℕ → List ℕ
 madeFresh t n = unless (freshRefusal t n) (fresh n) t
