@@ -16,7 +16,7 @@ use Rattle.meaning.specs.Rows.{given}
 use Rattle.meaning.specs.Table.{nodesMost, countRight, fresh}
 use Rattle.meaning.specs.Frames.{kinds, bytesOf, allDigits, total, digitsOf, lineKind, lineFields, lineRefusal, meant, lineIs, readLine}
 use Rattle.meaning.specs.Journals.{unended, lineAt, placeAfter, inTurn, nextAt, journal, startedFrom, afterAll, replayAfter}
-use Rattle.meaning.specs.Account.{run}
+use Rattle.meaning.specs.Account.{events, run}
 use Rattle.meaning.proofs.RowLaws.{and-left, and-right}
 use Rattle.meaning.proofs.AccountCorollaries.{run-table}
 use Rattle.meaning.proofs.Demand3.{NothingLost, demand3}
@@ -103,15 +103,16 @@ started (suc n) t h = refl
 -- DEMAND 3 of journals: whatever words were lent and whatever the journal holds, the table after its replay is that of the run of its steps, up to
 -- the end or the first refused line, and at each of its nodes nothing is lost.
 pub journal-demand3 : (t s : List ℕ) (p : ℕ) → p < journal s .n →
-    (replayAfter t s ≡ run (journal s .n) (journal s .rest .steps) .table) × NothingLost (journal s .n) (run (journal s .n) (journal s .rest .steps)) p
+    (replayAfter t s ≡ run (journal s .n) (events (journal s .rest .steps)) .table) ×
+    NothingLost (journal s .n) (run (journal s .n) (events (journal s .rest .steps))) p
 unfolding replayAfter
 journal-demand3 t s p h = (
   ap (λ (u : List ℕ). afterAll u (journal s .rest .steps)) (started (journal s .n) t (omega arith)) ∙ sym (run-table (journal s .n) (journal s .rest .steps)),
   within (journal-right s),
 )
   where
-    within : (journal s .n ≡ 0) ⊎ (countRight (journal s .n) ≡ true) → NothingLost (journal s .n) (run (journal s .n) (journal s .rest .steps)) p
+    within : (journal s .n ≡ 0) ⊎ (countRight (journal s .n) ≡ true) → NothingLost (journal s .n) (run (journal s .n) (events (journal s .rest .steps))) p
     within (inl e) = absurd (omega arith)
     within (inr c) =
         demand3 (journal s .n) (leb-true 2 (journal s .n) (and-left (leb 2 (journal s .n)) (leb (journal s .n) nodesMost) c))
-        (leb-true (journal s .n) nodesMost (and-right (leb 2 (journal s .n)) (leb (journal s .n) nodesMost) c)) (journal s .rest .steps) p h
+        (leb-true (journal s .n) nodesMost (and-right (leb 2 (journal s .n)) (leb (journal s .n) nodesMost) c)) (events (journal s .rest .steps)) p h

@@ -12,9 +12,9 @@ use Rattle.meaning.specs.Rows.{least}
 use Rattle.meaning.specs.Table.{Node, nodesMost, count, node}
 use Rattle.meaning.specs.Node.{own, wrote, opened, finished, ended, purged}
 use Rattle.meaning.specs.Steps.{finishesA, finishesB, refusal, limit, acted}
-use Rattle.meaning.specs.Account.{Account, Run, stepped, ran, run}
+use Rattle.meaning.specs.Account.{Account, Run, stepped, Event, AStep, befell, ran, run}
 use Rattle.meaning.proofs.AccountLaws.{entry, le-least, raise-entry}
-use Rattle.meaning.proofs.TableLaws.{node-shaped}
+use Rattle.meaning.proofs.TableLaws.{node-shaped, node-same, node-other}
 use Rattle.meaning.proofs.StepLaws.{
   may-write,
   may-meet,
@@ -25,12 +25,10 @@ use Rattle.meaning.proofs.StepLaws.{
   session-a,
   session-b,
   session-other,
-  one-same,
-  one-other,
 }
 use Rattle.meaning.proofs.AccountSteps.{Whole, each}
 use Rattle.meaning.proofs.AccountNodes.{set-up}
-use Rattle.meaning.proofs.AccountTable.{Sure, sure-run, sure-stepped, stepped-accepted, stepped-refused}
+use Rattle.meaning.proofs.AccountTable.{Sure, sure-run, sure-befell, stepped-accepted, stepped-refused}
 use Rattle.meaning.proofs.AccountCorollaries.{run-append}
 
 -- a node whose entries are each no less than another's
@@ -92,9 +90,9 @@ rises-acted t (Write p c b v) x k w =
     let fits = write-shaped t p c b v m in
     let long = node-shaped t s p (m .here) .summaryLong in
     each (λ (q : ℕ). Rises (node t q) (node (acted t (Write p c b v)) q)) (count t) p
-    (rises-at (node t p) (node (acted t (Write p c b v)) p) y (one-same t s p (m .here) y fits)
+    (rises-at (node t p) (node (acted t (Write p c b v)) p) y (node-same t s p (m .here) y fits)
     (rises-wrote p c b v (node t p) (omega (arith, m .here)) (m .later)))
-    (λ q h ne. rises-at (node t q) (node (acted t (Write p c b v)) q) (node t q) (one-other t s p (m .here) y fits q h ne) (rises-refl (node t q)))
+    (λ q h ne. rises-at (node t q) (node (acted t (Write p c b v)) q) (node t q) (node-other t s p (m .here) y fits q h ne) (rises-refl (node t q)))
 rises-acted t (Session a b ca cb o) x k w =
     let m = may-meet t a b ca cb o k in
     let s = m .isSound in
@@ -121,8 +119,8 @@ rises-acted t (Purge p) x k w =
     let y = purged (limit t p) (node t p) in
     let fits = purge-shaped t p m in
     each (λ (q : ℕ). Rises (node t q) (node (acted t (Purge p)) q)) (count t) p
-    (rises-at (node t p) (node (acted t (Purge p)) p) y (one-same t s p (m .here) y fits) (rises-purged (limit t p) (node t p)))
-    (λ q h ne. rises-at (node t q) (node (acted t (Purge p)) q) (node t q) (one-other t s p (m .here) y fits q h ne) (rises-refl (node t q)))
+    (rises-at (node t p) (node (acted t (Purge p)) p) y (node-same t s p (m .here) y fits) (rises-purged (limit t p) (node t p)))
+    (λ q h ne. rises-at (node t q) (node (acted t (Purge p)) q) (node t q) (node-other t s p (m .here) y fits q h ne) (rises-refl (node t q)))
 
 rises-stepped-at : (n : ℕ) (x : Run) (s : Step) (k : ℕ) → refusal (x .table) (s .action) ≡ k → Sure n x → (q : ℕ) → q < n →
     Rises (node (x .table) q) (node (stepped x s .table) q)
@@ -132,14 +130,19 @@ rises-stepped-at n x s zero h u q j =
     (subst (λ (m : ℕ). Whole m (node (x .table)) (x .account)) (sym (u .counted)) (u .whole)) q (rw (u .counted) j))
 rises-stepped-at n x s (suc k) h u q j = rw (stepped-refused x s k h) (rises-refl (node (x .table) q))
 
+rises-befell : (n : ℕ) (x : Run) (e : Event) → Sure n x → (q : ℕ) → q < n → Rises (node (x .table) q) (node (befell x e .table) q)
+unfolding befell
+rises-befell n x (AStep s) u q j = rises-stepped-at n x s (refusal (x .table) (s .action)) refl u q j
+
 -- however a run goes on
-pub never-down : (n : ℕ) (x : Run) → Sure n x → (ss : List Step) (q : ℕ) → q < n → Rises (node (x .table) q) (node (ran x ss .table) q)
+pub never-down : (n : ℕ) (x : Run) → Sure n x → (es : List Event) (q : ℕ) → q < n → Rises (node (x .table) q) (node (ran x es .table) q)
 unfolding ran
 never-down n x u [] q j = rises-refl (node (x .table) q)
-never-down n x u (s ∷ ss) q j =
-    rises-trans (node (x .table) q) (node (stepped x s .table) q) (node (ran (stepped x s) ss .table) q)
-    (rises-stepped-at n x s (refusal (x .table) (s .action)) refl u q j)
-    (never-down n (stepped x s) (sure-stepped n x s u) ss q j)
+never-down n x u (e ∷ es) q j =
+    rises-trans (node (x .table) q) (node (befell x e .table) q) (node (ran (befell x e) es .table) q)
+    (rises-befell n x e u q j)
+    (never-down n (befell x e) (sure-befell n x e u) es q j)
 
-pub run-never-down : (n : ℕ) → 2 ≤ n → n ≤ nodesMost → (ss ts : List Step) (q : ℕ) → q < n → Rises (node (run n ss .table) q) (node (run n (ss ++ ts) .table) q)
-run-never-down n lo hi ss ts q j = rw (run-append n ss ts) (never-down n (run n ss) (sure-run n lo hi ss) ts q j)
+pub run-never-down :
+    (n : ℕ) → 2 ≤ n → n ≤ nodesMost → (es fs : List Event) (q : ℕ) → q < n → Rises (node (run n es .table) q) (node (run n (es ++ fs) .table) q)
+run-never-down n lo hi es fs q j = rw (run-append n es fs) (never-down n (run n es) (sure-run n lo hi es) fs q j)

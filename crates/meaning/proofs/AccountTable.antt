@@ -12,9 +12,9 @@ use Rattle.meaning.specs.declared.Step.{Step}
 use Rattle.meaning.specs.Table.{nodesMost, summaryAt, acksAt, count, node, fresh}
 use Rattle.meaning.specs.Node.{wrote, purged}
 use Rattle.meaning.specs.Steps.{limit, refusal, acted}
-use Rattle.meaning.specs.Account.{has, Account, nothing, noted, Run, noteIf, stepped, ran, run}
+use Rattle.meaning.specs.Account.{has, Account, nothing, noted, Run, noteIf, stepped, Event, AStep, befell, ran, run}
 use Rattle.meaning.proofs.PlaceLaws.{getD-part}
-use Rattle.meaning.proofs.TableLaws.{node-shaped}
+use Rattle.meaning.proofs.TableLaws.{node-shaped, node-same, node-other}
 use Rattle.meaning.proofs.StepLaws.{
   after-accepted,
   after-refused,
@@ -26,8 +26,6 @@ use Rattle.meaning.proofs.StepLaws.{
   session-a,
   session-b,
   session-other,
-  one-same,
-  one-other,
   acted-count,
   fresh-count,
   fresh-word,
@@ -103,8 +101,8 @@ whole-acted t (Write p c b v) x k w =
     let m = may-write t p c b v k in
     let fits = write-shaped t p c b v m in
     whole-write (count t) (node t) (node (acted t (Write p c b v))) x p c b v (m .here) (m .later)
-    (one-same t (m .isSound) p (m .here) (wrote p c b v (node t p)) fits)
-    (one-other t (m .isSound) p (m .here) (wrote p c b v (node t p)) fits) w
+    (node-same t (m .isSound) p (m .here) (wrote p c b v (node t p)) fits)
+    (node-other t (m .isSound) p (m .here) (wrote p c b v (node t p)) fits) w
 whole-acted t (Session a b ca cb o) x k w =
     let m = may-meet t a b ca cb o k in
     whole-session (count t) (node t) (node (acted t (Session a b ca cb o))) x a b ca cb o (m .hereA) (m .hereB) (m .apart) (m .clockA) (m .clockB)
@@ -116,8 +114,8 @@ whole-acted t (Purge p) x k w =
     let s = m .isSound in
     let fits = purge-shaped t p m in
     whole-purge (count t) (node t) (node (acted t (Purge p))) x p (limit t p) (m .here) (limit-low t p (count t) (node-shaped t s p (m .here) .acksLong))
-    (one-same t s p (m .here) (purged (limit t p) (node t p)) fits)
-    (one-other t s p (m .here) (purged (limit t p) (node t p)) fits) w
+    (node-same t s p (m .here) (purged (limit t p) (node t p)) fits)
+    (node-other t s p (m .here) (purged (limit t p) (node t p)) fits) w
 
 -- what a step leaves of a run, accepted or refused
 pub stepped-accepted : (x : Run) (s : Step) → refusal (x .table) (s .action) ≡ 0 →
@@ -150,13 +148,17 @@ sure-stepped-at n x s (suc k) h u = rw (stepped-refused x s k h) u
 pub sure-stepped : (n : ℕ) (x : Run) (s : Step) → Sure n x → Sure n (stepped x s)
 sure-stepped n x s u = sure-stepped-at n x s (refusal (x .table) (s .action)) refl u
 
--- A list of steps ----------------------------------------------------------------------------------------------------------------------------
+-- A list of events ---------------------------------------------------------------------------------------------------------------------------
 
-pub sure-ran : (n : ℕ) (x : Run) (ss : List Step) → Sure n x → Sure n (ran x ss)
+pub sure-befell : (n : ℕ) (x : Run) (e : Event) → Sure n x → Sure n (befell x e)
+unfolding befell
+sure-befell n x (AStep s) u = sure-stepped n x s u
+
+pub sure-ran : (n : ℕ) (x : Run) (es : List Event) → Sure n x → Sure n (ran x es)
 unfolding ran
 sure-ran n x [] u = u
-sure-ran n x (s ∷ ss) u = sure-ran n (stepped x s) ss (sure-stepped n x s u)
+sure-ran n x (e ∷ es) u = sure-ran n (befell x e) es (sure-befell n x e u)
 
-pub sure-run : (n : ℕ) → 2 ≤ n → n ≤ nodesMost → (ss : List Step) → Sure n (run n ss)
+pub sure-run : (n : ℕ) → 2 ≤ n → n ≤ nodesMost → (es : List Event) → Sure n (run n es)
 unfolding run
-sure-run n lo hi ss = sure-ran n (record { table = fresh n; account = nothing }) ss (sure-fresh n lo hi)
+sure-run n lo hi es = sure-ran n (record { table = fresh n; account = nothing }) es (sure-fresh n lo hi)

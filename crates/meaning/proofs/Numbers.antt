@@ -2,18 +2,18 @@
 use mathlib.Core.Path.{_≡_, refl, ap, _∙_}
 use mathlib.Core.Bool.{Bool, true, false, not, _&&_, _||_}
 use mathlib.Core.List.{List}
-use Prim.Native.Nat.{ℕ, zero, suc, _+_, _*_, _%_, _≤_, _<_}
-use native.Mathlib.Omega.{arith}
+use Prim.Native.Nat.{ℕ, zero, suc, _%_, _<_}
 use lib.ListN.{length, getD}
 use lib.Dec.{leb, ltb, eqb}
 use Rattle.meaning.specs.declared.Action.{Action}
 use Rattle.meaning.specs.declared.Action.the-variants.{Write, Session, Purge}
 use Rattle.meaning.specs.Rows.{given}
-use Rattle.meaning.specs.Table.{Node, logMost, summaryAt, acksAt, heldAt, logAt, count, node, putNode, countRight}
+use Rattle.meaning.specs.Table.{Node, count, node, putNode, countRight, Sound, Shaped}
 use Rattle.meaning.specs.Node.{wrote, purged}
 use Rattle.meaning.specs.Steps.{refusals, refusal, limit, acted, after}
 use Rattle.meaning.specs.Frames.{allDigits, bytesOf, total, kinds, digitsOf, lineKind, lineFields, lineRefusal}
-use Rattle.meaning.proofs.TableLaws.{Sound, Shaped, put-word-away}
+use Rattle.meaning.proofs.PieceLaws.{Apart}
+use Rattle.meaning.proofs.TableLaws.{regions, put-word-away}
 use Rattle.meaning.proofs.RefusalLaws.{listed, first-listed}
 use Rattle.meaning.proofs.StepLaws.{
   after-accepted,
@@ -40,21 +40,13 @@ refusal-listed t x = first-listed (refusals t x)
 
 -- A word that stands in no row, held number or log of a node below n
 pub Outside : ℕ → ℕ → Type 0
-Outside n i =
-    (p : ℕ) → p < n →
-    (i < summaryAt p + n → summaryAt p ≤ i → ⊥) ×
-    (i < acksAt p + n → acksAt p ≤ i → ⊥) ×
-    (i < heldAt p + 1 → heldAt p ≤ i → ⊥) ×
-    (i < logAt p + 4 * logMost → logAt p ≤ i → ⊥)
+Outside n i = (p : ℕ) → p < n → Apart i 1 (regions n p)
 
 put-outside :
-    (t : List ℕ) (s : Sound t) (p : ℕ) → p < count t → (x : Node) → Shaped (count t) x → (i : ℕ) → Outside (count t) i →
+    (t : List ℕ) (s : Sound t) (p : ℕ) (h : p < count t) (x : Node) → Shaped (count t) x → (i : ℕ) → Outside (count t) i →
     getD (putNode p x t) i 0 ≡ getD t i 0
 unfolding Outside
-put-outside t s p h x fits i out =
-    let g = s .high in
-    let o = out p h in
-    put-word-away t (s .long) (count t) (s .high) p (omega arith) x fits (s .room p h) i (o .0) (o .1) (o .2) (o .3)
+put-outside t s p h x fits i out = put-word-away t s p h x fits i (out p h)
 
 acted-outside : (t : List ℕ) (x : Action) → refusal t x ≡ 0 → (i : ℕ) → Outside (count t) i → getD (acted t x) i 0 ≡ getD t i 0
 unfolding acted

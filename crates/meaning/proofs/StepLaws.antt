@@ -13,7 +13,7 @@ use Rattle.meaning.specs.declared.Record.{Record}
 use Rattle.meaning.specs.declared.Action.{Action}
 use Rattle.meaning.specs.declared.Action.the-variants.{Write, Session, Purge}
 use Rattle.meaning.specs.declared.Reply.the-variants.{Refused}
-use Rattle.meaning.specs.Rows.{newer, above, records}
+use Rattle.meaning.specs.Rows.{all, newer, above, records}
 use Rattle.meaning.specs.Refusals.{first, from}
 use Rattle.meaning.specs.Table.{
   Node,
@@ -31,14 +31,14 @@ use Rattle.meaning.specs.Table.{
   fresh,
   recordSound,
   sound,
+  Sound,
+  Shaped,
 }
 use Rattle.meaning.specs.Node.{own, wrote, opened, sent, finished, ended, purged}
 use Rattle.meaning.specs.Steps.{finishesA, finishesB, overfull, refusals, refusal, limit, acted, reported, reply, after}
-use Rattle.meaning.proofs.RowLaws.{all, all-append, all-keep, length-above, and-both, length-raise, length-records, records-take}
+use Rattle.meaning.proofs.RowLaws.{all-append, all-keep, length-above, and-both, length-raise, length-records, records-take}
 use Rattle.meaning.proofs.RefusalLaws.{none, numbered, testOf, before, first-at, first-from}
 use Rattle.meaning.proofs.TableLaws.{
-  Sound,
-  Shaped,
   sound-facts,
   facts-sound,
   sound-put,
@@ -195,20 +195,6 @@ ended-right n x y true h g =
     and-both (all (recordSound n) (x .log)) (all (recordSound n) (sent x y)) h (all-keep (recordSound n) _ (y .log) g)
 ended-right n x y false h g = h
 
--- One node put into a sound table
-module _ (t : List ℕ) (s : Sound t) (p : ℕ) (hp : p < count t) (x : Node) (fits : Shaped (count t) x) where
-  low : (q : ℕ) → q < count t → q < nodesMost
-  low q h = let g = s .high in omega arith
-
-  pub one-same : node (putNode p x t) p ≡ x
-  one-same = node-same t (s .long) (count t) (s .high) p (low p hp) x fits (s .room p hp) refl
-
-  pub one-other : (q : ℕ) → q < count t → (q ≡ p → ⊥) → node (putNode p x t) q ≡ node t q
-  one-other q h other = node-other t (s .long) (count t) (s .high) p (low p hp) x fits (s .room p hp) refl q (low q h) other
-
-  pub one-count : count (putNode p x t) ≡ count t
-  one-count = put-count t (s .long) (count t) (s .high) p (low p hp) x fits (s .room p hp)
-
 -- The verdict that an action brings: a byte in every step that is made, since its field is as wide as in the frame
 abbrev pub verdictOf : Action → ℕ
 verdictOf (Write p t b v) = v
@@ -248,7 +234,7 @@ module _ (t : List ℕ) (a b ca cb o : ℕ) (m : MayMeet t a b ca cb o) where
   halfway = putNode a (sideA t a b ca cb o) t
 
   pub halfway-count : count halfway ≡ count t
-  halfway-count = one-count t s a (m .hereA) (sideA t a b ca cb o) sideA-shaped
+  halfway-count = put-count t s a (m .hereA) (sideA t a b ca cb o) sideA-shaped
 
   pub halfway-sound : Sound halfway
   halfway-sound =
@@ -270,21 +256,21 @@ module _ (t : List ℕ) (a b ca cb o : ℕ) (m : MayMeet t a b ca cb o) where
   -- the node of each side afterwards, and of any other
   pub session-count : count (acted t (Session a b ca cb o)) ≡ count t
   unfolding acted
-  session-count = one-count halfway halfway-sound b halfway-here (sideB t a b ca cb o) halfway-shaped ∙ halfway-count
+  session-count = put-count halfway halfway-sound b halfway-here (sideB t a b ca cb o) halfway-shaped ∙ halfway-count
 
   pub session-b : node (acted t (Session a b ca cb o)) b ≡ sideB t a b ca cb o
   unfolding acted
-  session-b = one-same halfway halfway-sound b halfway-here (sideB t a b ca cb o) halfway-shaped
+  session-b = node-same halfway halfway-sound b halfway-here (sideB t a b ca cb o) halfway-shaped
 
   away : (q : ℕ) → q < count t → (q ≡ b → ⊥) → node (acted t (Session a b ca cb o)) q ≡ node halfway q
   unfolding acted
-  away q h other = one-other halfway halfway-sound b halfway-here (sideB t a b ca cb o) halfway-shaped q (rw halfway-count h) other
+  away q h other = node-other halfway halfway-sound b halfway-here (sideB t a b ca cb o) halfway-shaped q (rw halfway-count h) other
 
   pub session-a : node (acted t (Session a b ca cb o)) a ≡ sideA t a b ca cb o
-  session-a = away a (m .hereA) (m .apart) ∙ one-same t s a (m .hereA) (sideA t a b ca cb o) sideA-shaped
+  session-a = away a (m .hereA) (m .apart) ∙ node-same t s a (m .hereA) (sideA t a b ca cb o) sideA-shaped
 
   pub session-other : (q : ℕ) → q < count t → (q ≡ a → ⊥) → (q ≡ b → ⊥) → node (acted t (Session a b ca cb o)) q ≡ node t q
-  session-other q h na nb = away q h nb ∙ one-other t s a (m .hereA) (sideA t a b ca cb o) sideA-shaped q h na
+  session-other q h na nb = away q h nb ∙ node-other t s a (m .hereA) (sideA t a b ca cb o) sideA-shaped q h na
 
 -- what a write and a purge leave fits the table
 pub write-shaped : (t : List ℕ) (p c b v : ℕ) → MayWrite t p c → Shaped (count t) (wrote p c b v (node t p))
@@ -311,11 +297,11 @@ pub acted-count : (t : List ℕ) (x : Action) → refusal t x ≡ 0 → count (a
 unfolding acted
 acted-count t (Write p c b v) k =
     let m = may-write t p c b v k in
-    one-count t (m .isSound) p (m .here) (wrote p c b v (node t p)) (write-shaped t p c b v m)
+    put-count t (m .isSound) p (m .here) (wrote p c b v (node t p)) (write-shaped t p c b v m)
 acted-count t (Session a b ca cb o) k = session-count t a b ca cb o (may-meet t a b ca cb o k)
 acted-count t (Purge p) k =
     let m = may-purge t p k in
-    one-count t (m .isSound) p (m .here) (purged (limit t p) (node t p)) (purge-shaped t p m)
+    put-count t (m .isSound) p (m .here) (purged (limit t p) (node t p)) (purge-shaped t p m)
 
 -- and under every step at all
 after-sound-at : (t : List ℕ) (x : Action) → verdictOf x ≤ 255 → Sound t → (k : ℕ) → refusal t x ≡ k → Sound (after t x)
@@ -483,10 +469,10 @@ module _ (t : List ℕ) (s : Sound t) (p q : ℕ) (hp : p < count t) (hq : q < c
       (ended-right (count t) x y f (ap (all (recordSound (count t))) lx ∙ s .right p hp) (ap (all (recordSound (count t))) ly ∙ s .right q hq))
 
   pub once-count : count once ≡ count t
-  once-count = one-count t s p hp (ended f x y) fits
+  once-count = put-count t s p hp (ended f x y) fits
 
   pub once-log : node once q .log ≡ node t q .log
-  once-log = ap (λ (z : Node). z .log) (one-other t s p hp (ended f x y) fits q hq other)
+  once-log = ap (λ (z : Node). z .log) (node-other t s p hp (ended f x y) fits q hq other)
 
   pub once-held : held once q ≡ held t q
   once-held = held-log once q ∙ ap length once-log ∙ sym (held-log t q)
@@ -494,5 +480,5 @@ module _ (t : List ℕ) (s : Sound t) (p q : ℕ) (hp : p < count t) (hq : q < c
   pub once-began : (k : ℕ) → k ≡ held t p → records k (part (logAt p) (4 * logMost) once) ≡ node t p .log
   once-began k e =
       log-begins once p k (node t p .log) (taken f x y)
-      (ap (λ (z : Node). z .log) (one-same t s p hp (ended f x y) fits) ∙ ended-log f x y ∙ ap (λ (l : List Record). l ++ taken f x y) lx)
+      (ap (λ (z : Node). z .log) (node-same t s p hp (ended f x y) fits) ∙ ended-log f x y ∙ ap (λ (l : List Record). l ++ taken f x y) lx)
       (sym (held-log t p) ∙ sym e)

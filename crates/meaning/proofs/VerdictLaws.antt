@@ -12,11 +12,11 @@ use Rattle.meaning.specs.declared.Record.{Record}
 use Rattle.meaning.specs.declared.Class.the-variants.{NotRead, PageCache, PlatterGood, PlatterBad, Repaired, Reserved}
 use Rattle.meaning.specs.declared.Count.{Count}
 use Rattle.meaning.specs.declared.Count.the-variants.{Refused}
-use Rattle.meaning.specs.Rows.{every, recordAt, records}
+use Rattle.meaning.specs.Rows.{every, all, recordAt, records}
 use Rattle.meaning.specs.Refusals.{test, first}
 use Rattle.meaning.specs.Table.{logMost, logAt, part, count, held, node, sound, recordSound}
 use Rattle.meaning.specs.Verdicts.{classOf, countRefusal, verdictCount, nodeCount}
-use Rattle.meaning.proofs.RowLaws.{all, and-right, and-both, and-left, every-records, records-agree}
+use Rattle.meaning.proofs.RowLaws.{and-right, and-both, and-left, every-records, records-agree}
 use Rattle.meaning.proofs.TableLaws.{sound-facts}
 
 -- The class of a byte, found by its upper end where the lower ones were passed
