@@ -11,7 +11,7 @@ pub fn write(t: &mut [u32], node: u8, timestamp: u32, block: u32, verdict: u8) -
     if !soundness::is_sound(t) {
         return Reply::Refused { number: 1 };
     }
-    actions::write::write(t, node, timestamp, block, verdict)
+    writes::write(t, node, timestamp, block, verdict)
 }
 
 // A session: the refusal number, or what it carried to each side; a refusal changes no word.
@@ -31,5 +31,5 @@ pub fn purge(t: &mut [u32], node: u8) -> Reply
     if !soundness::is_sound(t) {
         return Reply::Refused { number: 1 };
     }
-    actions::purge::purge(t, node)
+    purges::purge(t, node)
 }

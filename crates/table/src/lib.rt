@@ -43,7 +43,7 @@ pub fn apply_sound(t: &mut [u32], action: Action) -> Reply
             timestamp,
             block,
             verdict,
-        } => actions::write::write(t, node, timestamp, block, verdict),
+        } => writes::write(t, node, timestamp, block, verdict),
         Action::Session {
             a,
             b,
@@ -51,7 +51,7 @@ pub fn apply_sound(t: &mut [u32], action: Action) -> Reply
             cb,
             outcome,
         } => sessions::session(t, a, b, ca, cb, outcome),
-        Action::Purge { node } => actions::purge::purge(t, node),
+        Action::Purge { node } => purges::purge(t, node),
     }
 }
 

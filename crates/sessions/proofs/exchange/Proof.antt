@@ -2,7 +2,7 @@
 use mathlib.Core.Path.{_≡_, ap, ap₂, sym, _∙_}
 use mathlib.Core.Bool.{Bool, true, false, _&&_, or-true}
 use mathlib.Core.List.{List}
-use Prim.Native.Nat.{ℕ, _+_, _-_, _≤_}
+use Prim.Native.Nat.{ℕ, _+_, _-_, _≤_, _<_}
 use native.Mathlib.Omega.{arith}
 use lib.ListN.{length}
 use lib.Dec.{ltb}
@@ -13,18 +13,19 @@ use Rattle.meaning.specs.Rows.{newer}
 use Rattle.meaning.specs.Table.{tableWords, logMost, count, node, held, place, putNode, summaryAt, acksAt}
 use Rattle.meaning.specs.Node.{ended}
 use Rattle.meaning.specs.Steps.{finishesA, finishesB, overfull, carried}
-use Rattle.sessions.specs.Begun.{begun, came, grown, heldLog, merged, Exchanged, Meets, Merges, Takes}
-use Rattle.sessions.proofs.Meeting.{whole-log, turned, halfTable, half-log, half-began, half-held, half-takes, crowd, side-put, came-carried}
+use Rattle.meaning.proofs.TableLaws.{Sound}
+use Rattle.sides.specs.Begun.{begun, came, grown, heldLog, merged, Exchanged, Meets, Merges, Takes}
+use Rattle.sides.proofs.Meeting.{whole-log, turned, halfTable, half-log, half-began, half-held, half-takes, crowd, side-put, came-carried}
 use borrow.Author.Needs.{needs}
 use Rattle.sessions.proofs.exchange.Statement.{statement}
 use Rattle.sessions.proofs.exchange.Tie as tie
 use Rattle.sessions.proofs.exchange.Reads as reads
 use Rattle.sessions.proofs.exchange.Lts as lts
-use Rattle.actions.proofs.look.held_of.Reads as held-of-reads
-use Rattle.sessions.proofs.finishes.Reads as finishes-reads
-use Rattle.sessions.proofs.merge.Reads as merge-reads
-use Rattle.sessions.proofs.overfills.Reads as overfills-reads
-use Rattle.sessions.proofs.take.Reads as take-reads
+use Rattle.looks.proofs.held_of.Reads as held-of-reads
+use Rattle.sides.proofs.finishes.Reads as finishes-reads
+use Rattle.sides.proofs.merge.Reads as merge-reads
+use Rattle.sides.proofs.overfills.Reads as overfills-reads
+use Rattle.sides.proofs.take.Reads as take-reads
 
 merges : (t : List ℕ) (a b : ℕ) (sa ka sb kb : List ℕ) → Meets t a b sa ka sb kb → (u : List ℕ) → length u ≡ tableWords → Merges u a sa ka sb kb
 merges t a b sa ka sb kb m u l =
@@ -121,6 +122,10 @@ module _ (t : List ℕ) (a b : ℕ) (sa ka sb kb : List ℕ) (ha hb : ℕ) (m : 
         p ∙ ap₂ (λ (l : List Record) (z : List ℕ). putNode b (ended g (begun sb kb l) (begun sa ka (node t a .log))) z) logB halved,
       )
 
+-- what `overfills` asks, of nodes that meet
+asks : (t : List ℕ) (a b : ℕ) (sa ka sb kb : List ℕ) → Meets t a b sa ka sb kb → (ha hb : ℕ) → ha ≤ logMost → hb ≡ held t b → Sound t × (b < count t) × (length sa ≡ count t) × (ha ≤ logMost) × (hb ≤ held t b)
+asks t a b sa ka sb kb m ha hb la eb = (m .isSound, m .hereB, m .longA .0, la, omega arith)
+
 finishes-requires : tie.Need-finishes-requires
 finishes-requires c κs = search needs
 
@@ -134,7 +139,7 @@ held-of-requires-2 : tie.Need-held-of-requires-2
 held-of-requires-2 c κs = search needs
 
 overfills-requires : tie.Need-overfills-requires
-overfills-requires c κs = search needs
+overfills-requires c κs = asks (c .before .before .before .before .before .before .before .before .before .before .before .before .args .t .now) (c .before .before .before .before .before .before .before .before .before .before .before .before .args .a) (c .before .before .before .before .before .before .before .before .before .before .before .before .args .b) (c .before .before .before .before .before .before .before .before .before .before .before .before .args .sa .now) (c .before .before .before .before .before .before .before .before .before .before .before .before .args .ka .now) (c .before .before .before .before .before .before .before .before .before .before .before .before .args .sb .now) (c .before .before .before .before .before .before .before .before .before .before .before .before .args .kb .now) (c .before .before .before .before .before .before .before .before .before .before .before .before .pre) (c .before .before .before .held-of .result) (c .before .held-of2 .result) (c .before .before .before .held-of .ensures .1) (c .before .held-of2 .ensures .0)
 
 same-length : tie.Need-same-length
 same-length c = search needs
@@ -145,7 +150,7 @@ returns c =
     (said (c .before .before .before .before .before .before .before .before .before .before .before .before .before .before .args .t .now) (c .before .before .before .before .before .before .before .before .before .before .before .before .before .before .args .a) (c .before .before .before .before .before .before .before .before .before .before .before .before .before .before .args .b) (c .before .before .before .before .before .before .before .before .before .before .before .before .before .before .args .sa .now) (c .before .before .before .before .before .before .before .before .before .before .before .before .before .before .args .ka .now) (c .before .before .before .before .before .before .before .before .before .before .before .before .before .before .args .sb .now) (c .before .before .before .before .before .before .before .before .before .before .before .before .before .before .args .kb .now) (c .before .before .before .before .before .held-of .result) (c .before .before .before .held-of2 .result) (c .before .before .before .before .before .held-of .ensures .0) (c .before .before .before .held-of2 .ensures .0) (c .before .before .before .before .before .before .before .before .finishes .result) (c .before .overfills .result) true (c .before .overfills .ensures) (c .if1 .taken))
 
 overfills-requires-2 : tie.Need-overfills-requires-2
-overfills-requires-2 c κs = search needs
+overfills-requires-2 c κs = asks (c .before .before .before .before .before .before .before .before .before .before .before .before .before .before .before .args .t .now) (c .before .before .before .before .before .before .before .before .before .before .before .before .before .before .before .args .b) (c .before .before .before .before .before .before .before .before .before .before .before .before .before .before .before .args .a) (c .before .before .before .before .before .before .before .before .before .before .before .before .before .before .before .args .sb .now) (c .before .before .before .before .before .before .before .before .before .before .before .before .before .before .before .args .kb .now) (c .before .before .before .before .before .before .before .before .before .before .before .before .before .before .before .args .sa .now) (c .before .before .before .before .before .before .before .before .before .before .before .before .before .before .before .args .ka .now) (turned (c .before .before .before .before .before .before .before .before .before .before .before .before .before .before .before .args .t .now) (c .before .before .before .before .before .before .before .before .before .before .before .before .before .before .before .args .a) (c .before .before .before .before .before .before .before .before .before .before .before .before .before .before .before .args .b) (c .before .before .before .before .before .before .before .before .before .before .before .before .before .before .before .args .sa .now) (c .before .before .before .before .before .before .before .before .before .before .before .before .before .before .before .args .ka .now) (c .before .before .before .before .before .before .before .before .before .before .before .before .before .before .before .args .sb .now) (c .before .before .before .before .before .before .before .before .before .before .before .before .before .before .before .args .kb .now) (c .before .before .before .before .before .before .before .before .before .before .before .before .before .before .before .pre)) (c .before .before .before .before .held-of2 .result) (c .before .before .before .before .before .before .held-of .result) (c .before .before .before .before .held-of2 .ensures .1) (c .before .before .before .before .before .before .held-of .ensures .0)
 
 same-length-2 : tie.Need-same-length-2
 same-length-2 c = search needs

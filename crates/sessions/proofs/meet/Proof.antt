@@ -16,16 +16,16 @@ use Rattle.meaning.specs.Node.{own, opened}
 use Rattle.meaning.specs.Steps.{clockBack, noRoom, acted, reported, replied}
 use Rattle.meaning.proofs.TableLaws.{Sound, node-shaped}
 use Rattle.meaning.proofs.StepLaws.{opened-shaped}
-use Rattle.sessions.specs.Begun.{begun, Exchanged, Meets}
+use Rattle.sides.specs.Begun.{begun, Exchanged, Meets}
 use borrow.Author.Needs.{needs}
 use Rattle.sessions.proofs.meet.Statement.{statement}
 use Rattle.sessions.proofs.meet.Tie as tie
 use Rattle.sessions.proofs.meet.Reads as reads
 use Rattle.sessions.proofs.meet.Lts as lts
-use Rattle.actions.proofs.look.nodes_of.Reads as nodes-of-reads
-use Rattle.actions.proofs.look.own_of.Reads as own-of-reads
+use Rattle.looks.proofs.nodes_of.Reads as nodes-of-reads
+use Rattle.looks.proofs.own_of.Reads as own-of-reads
 use Rattle.sessions.proofs.exchange.Reads as exchange-reads
-use Rattle.sessions.proofs.opening.Reads as opening-reads
+use Rattle.sides.proofs.opening.Reads as opening-reads
 
 module _ (t : List ℕ) (s : Sound t) (a b : ℕ) (ha : a < count t) (hb : b < count t) (apart : a ≡ b → ⊥) (ca cb o : ℕ) where
   -- what is asked of the reply r and the words u

@@ -19,7 +19,7 @@ use Rattle.sessions.proofs.session.Statement.{statement}
 use Rattle.sessions.proofs.session.Tie as tie
 use Rattle.sessions.proofs.session.Reads as reads
 use Rattle.sessions.proofs.session.Lts as lts
-use Rattle.actions.proofs.look.nodes_of.Reads as nodes-of-reads
+use Rattle.looks.proofs.nodes_of.Reads as nodes-of-reads
 use Rattle.sessions.proofs.meet.Reads as meet-reads
 
 module _ (t : List ℕ) (s : Sound t) (a b ca cb o : ℕ) where

@@ -4,9 +4,9 @@ use Rattle.table.proofs.apply_sound.Statement.{statement}
 use Rattle.table.proofs.apply_sound.Tie as tie
 use Rattle.table.proofs.apply_sound.Reads as reads
 use Rattle.table.proofs.apply_sound.Lts as lts
-use Rattle.actions.proofs.purge.purge.Reads as purge-reads
+use Rattle.purges.proofs.purge.Reads as purge-reads
 use Rattle.sessions.proofs.session.Reads as session-reads
-use Rattle.actions.proofs.write.write.Reads as write-reads
+use Rattle.writes.proofs.write.Reads as write-reads
 
 enum-known-action : tie.Need-enum-known-action
 enum-known-action c = search needs
