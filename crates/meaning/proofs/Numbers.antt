@@ -1,17 +1,15 @@
 -- Refusals are from document 01's lists, and no step changes a word that belongs to no node below n.
 use mathlib.Core.Path.{_≡_, refl, ap, _∙_}
-use mathlib.Core.Bool.{Bool, true, false, not, _&&_, _||_}
+use mathlib.Core.Bool.{true}
 use mathlib.Core.List.{List}
-use Prim.Native.Nat.{ℕ, zero, suc, _%_, _<_}
-use lib.ListN.{length, getD}
-use lib.Dec.{leb, ltb, eqb}
+use Prim.Native.Nat.{ℕ, zero, suc, _<_}
+use lib.ListN.{getD}
 use Rattle.meaning.specs.declared.Action.{Action}
 use Rattle.meaning.specs.declared.Action.the-variants.{Write, Session, Purge}
-use Rattle.meaning.specs.Rows.{given}
-use Rattle.meaning.specs.Table.{Node, count, node, putNode, countRight, Sound, Shaped}
+use Rattle.meaning.specs.Table.{Node, count, node, putNode, Sound, Shaped}
 use Rattle.meaning.specs.Node.{wrote, purged}
 use Rattle.meaning.specs.Steps.{refusals, refusal, limit, acted, after}
-use Rattle.meaning.specs.Frames.{allDigits, bytesOf, total, kinds, digitsOf, lineKind, lineFields, lineRefusal}
+use Rattle.meaning.specs.Frames.{lineTests, lineRefusal}
 use Rattle.meaning.proofs.PieceLaws.{Apart}
 use Rattle.meaning.proofs.TableLaws.{regions, put-word-away}
 use Rattle.meaning.proofs.RefusalLaws.{listed, first-listed}
@@ -33,7 +31,7 @@ use Rattle.meaning.proofs.StepLaws.{
   halfway-shaped,
 }
 
--- A step's refusal is one of its action's numbers, and 0 is none; none is above 6
+-- A step's refusal is one of its action's numbers, and 0 is none
 pub refusal-listed : (t : List ℕ) (x : Action) → listed (refusal t x) (refusals t x) ≡ true
 unfolding refusal
 refusal-listed t x = first-listed (refusals t x)
@@ -71,24 +69,7 @@ after-outside t x i out = go (refusal t x) refl
     go zero h = ap (λ (u : List ℕ). getD u i 0) (after-accepted t x h) ∙ acted-outside t x h i out
     go (suc k) h = ap (λ (u : List ℕ). getD u i 0) (after-refused t x k h)
 
--- A single line's refusal is 12, 11, 13 or 15, and 0 is none
-abbrev pub lineNumber : ℕ → Bool
-lineNumber k = eqb k 0 || (eqb k 11 || (eqb k 12 || (eqb k 13 || eqb k 15)))
-
-chain : (a b c d e f g : Bool) → lineNumber (given a 12 (given b 11 (given c 11 (given d 11 (given e 11 (given f 13 (given g 15 0))))))) ≡ true
-chain true b c d e f g = refl
-chain false true c d e f g = refl
-chain false false true d e f g = refl
-chain false false false true e f g = refl
-chain false false false false true f g = refl
-chain false false false false false true g = refl
-chain false false false false false false true = refl
-chain false false false false false false false = refl
-
-pub line-listed : (l : List ℕ) → lineNumber (lineRefusal l) ≡ true
+-- A single line's refusal is one of its tests' numbers: 12, 11, 13 or 15, and 0 is none
+pub line-listed : (l : List ℕ) → listed (lineRefusal l) (lineTests l) ≡ true
 unfolding lineRefusal
-line-listed l =
-    let bs = bytesOf l in
-    let kind = lineKind bs in
-    chain (not (allDigits l)) (eqb (length l % 2) 1 || eqb (length l) 0) (leb (length kinds) kind) (not (eqb (length l) (digitsOf kind)))
-    (eqb kind 2 && ltb 3 (getD (lineFields bs) 4 0)) (not (eqb (total bs) 0)) (eqb kind 0 && not (countRight (getD (lineFields bs) 0 0)))
+line-listed l = first-listed (lineTests l)
