@@ -9,10 +9,11 @@ use Prim.Native.String.{String}
 use lib.Dec.{T, eqb, eqb→eq}
 use Rattle.meaning.specs.declared.Action.{Action}
 use Rattle.meaning.specs.declared.Action.the-variants.{Write, Session, Purge}
+use Rattle.meaning.specs.Refusals.{first}
 use Rattle.meaning.specs.Rows.{ascii, every, keep, least, raise, covers, newer, above, recordAt, records, words}
-use Rattle.meaning.specs.Table.{summaryAt, acksAt, heldAt, logAt, part, place, count, held, node, putNode, fresh, recordSound, logSound, sound}
+use Rattle.meaning.specs.Table.{summaryAt, acksAt, heldAt, logAt, part, place, count, held, node, lay, pieces, putNode, fresh, recordSound, logSound, sound}
 use Rattle.meaning.specs.Node.{own, wrote, opened, finished, purged}
-use Rattle.meaning.specs.Steps.{outcomeAbove, nodeAbsent, nodeTwice, clockBack, noRoom, refusal, limit, acted, reported, reply, after, replyValues}
+use Rattle.meaning.specs.Steps.{refusals, refusal, limit, acted, reported, reply, after, replyValues}
 use Rattle.meaning.specs.Frames.{
   digit,
   digitValue,
@@ -21,19 +22,23 @@ use Rattle.meaning.specs.Frames.{
   allDigits,
   total,
   check,
-  widths,
-  digitsOf,
+  journalKinds,
+  knownIn,
+  widthsIn,
+  digitsIn,
   highFirst,
   number,
   packed,
   unpacked,
   actionOf,
   sealed,
-  frameOf,
+  frameIn,
   frame,
   startFrame,
   lineKind,
-  lineFields,
+  fieldsIn,
+  fieldTests,
+  lineTests,
   lineRefusal,
   readLine,
   lineValues,
@@ -217,10 +222,10 @@ holds-all (r ∷ rs) h =
     cc
 
 pub edges : map (λ (r : Row). r .computed) rows ≡ map (λ (r : Row). r .expected) rows
-unfolding every keep least raise covers newer above recordAt records words part place count held node putNode fresh recordSound logSound sound own wrote opened finished purged outcomeAbove nodeAbsent nodeTwice clockBack noRoom refusal limit acted reported reply after digit digitValue spelled bytesOf allDigits total check widths digitsOf highFirst number packed unpacked actionOf sealed frameOf frame startFrame lineKind lineFields lineRefusal readLine untilLF hasLF unended lineAt placeAfter nextAt stepsFrom journal afterAll refusedOf replayed replayAfter decimalIn decimal spaced said nodeLine nodeLines printed classOf scrubbed touched counted countRefusal verdictCount changes does refused reached verdict line example rows holds same
+unfolding every keep least raise covers newer above recordAt records words part place count held node lay pieces putNode fresh recordSound logSound sound own wrote opened finished purged refusals refusal limit acted reported reply after digit digitValue spelled bytesOf allDigits total check journalKinds knownIn widthsIn digitsIn highFirst number packed unpacked actionOf sealed frameIn frame startFrame lineKind fieldsIn first fieldTests lineTests lineRefusal readLine untilLF hasLF unended lineAt placeAfter nextAt stepsFrom journal afterAll refusedOf replayed replayAfter decimalIn decimal spaced said nodeLine nodeLines printed classOf scrubbed touched counted countRefusal verdictCount changes does refused reached verdict line example rows holds same
 edges = holds-all rows tt
 
 -- "session 0 with 0: 4, whatever the readings"
 pub itself : (ca cb : ℕ) → reply two (Session 0 0 ca cb 3) ≡ Rattle.meaning.specs.declared.Reply.the-variants.Refused 4
-unfolding every least raise recordAt records part place count held node fresh recordSound logSound sound outcomeAbove nodeAbsent nodeTwice refusal reply
+unfolding every least raise recordAt records part place count held node fresh recordSound logSound sound first refusals refusal reply
 itself ca cb = refl

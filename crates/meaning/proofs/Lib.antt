@@ -1,5 +1,6 @@
 pub mod Edges
 pub mod PlaceLaws
+pub mod PieceLaws
 pub mod RowLaws
 pub mod RefusalLaws
 pub mod TableLaws

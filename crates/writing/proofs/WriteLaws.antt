@@ -11,7 +11,7 @@ use Rattle.meaning.specs.Table.{place}
 use Rattle.meaning.specs.declared.Framed.{Framed}
 use Rattle.meaning.specs.declared.Action.{Action}
 use Rattle.meaning.specs.declared.Action.the-variants.{Write, Session}
-use Rattle.meaning.specs.Frames.{digit, spelled, highFirst, total, check, sealed, widths, packed, frameOf, frame, frameReply, frameAfter}
+use Rattle.meaning.specs.Frames.{digit, spelled, highFirst, total, check, sealed, journalKinds, widthsIn, widths, packed, frameIn, frameOf, frame, frameReply, frameAfter}
 use Rattle.meaning.proofs.PlaceLaws.{length-place, place-append, place-comm, set-place, place-none}
 use Rattle.meaning.proofs.FrameLaws.{total-append, spelled-append, length-spelled, length-highFirst}
 
@@ -137,14 +137,14 @@ wrote-all t₀ t t′ bs at sum n h so p =
 
 -- the frames, field after field
 frame-short : (kind n : ℕ) → widths kind ≡ 1 ∷ [] → kind < 256 → frameOf kind (n ∷ []) ≡ spelled (sealed (highFirst 1 kind ++ highFirst 1 n)) ++ (10 ∷ [])
-unfolding frameOf packed highFirst
+unfolding frameIn packed highFirst
 frame-short kind n e k =
     let small : kind % 256 ≡ kind = mod-eq-of-lt k in
-    rw (frameOf, e, small) refl
+    rw (frameIn, e, small) refl
 
 pub put-short : (t₀ t₁ t₂ t₃ : List ℕ) (s₁ s₂ kind n : ℕ) → widths kind ≡ 1 ∷ [] → kind < 256 → 7 ≤ length t₀ → Put t₀ t₁ 0 1 kind 0 s₁ → Put t₁ t₂ 1 1 n s₁ s₂
     → t₃ ≡ place 4 (spelled ((256 - s₂) % 256 ∷ []) ++ (10 ∷ [])) t₂ → t₃ ≡ place 0 (frameOf kind (n ∷ [])) t₀
-unfolding highFirst frameOf packed
+unfolding highFirst frameIn packed
 put-short t₀ t₁ t₂ t₃ s₁ s₂ kind n e k h p₁ p₂ q =
     let w₁ = wrote-more t₀ t₀ t₁ [] 0 1 kind 0 s₁ refl (omega arith) p₁ (wrote-none t₀) in
     let w₂ = wrote-more t₀ t₁ t₂ (highFirst 1 kind) 1 1 n s₁ s₂ refl (omega arith) p₂ w₁ in
@@ -153,7 +153,7 @@ put-short t₀ t₁ t₂ t₃ s₁ s₂ kind n e k h p₁ p₂ q =
 pub put-write : (t₀ t₁ t₂ t₃ t₄ t₅ t₆ : List ℕ) (s₁ s₂ s₃ s₄ s₅ p t b v : ℕ) → 25 ≤ length t₀ →
     Put t₀ t₁ 0 1 1 0 s₁ → Put t₁ t₂ 1 1 p s₁ s₂ → Put t₂ t₃ 2 4 t s₂ s₃ → Put t₃ t₄ 6 4 b s₃ s₄ → Put t₄ t₅ 10 1 v s₄ s₅
     → t₆ ≡ place 22 (spelled ((256 - s₅) % 256 ∷ []) ++ (10 ∷ [])) t₅ → t₆ ≡ place 0 (frame (Write p t b v)) t₀
-unfolding highFirst frame frameOf packed widths
+unfolding highFirst frame frameIn packed widthsIn journalKinds
 put-write t₀ t₁ t₂ t₃ t₄ t₅ t₆ s₁ s₂ s₃ s₄ s₅ p t b v h p₁ p₂ p₃ p₄ p₅ q =
     let b₁ = [] ++ highFirst 1 1 in
     let b₂ = b₁ ++ highFirst 1 p in
@@ -170,7 +170,7 @@ put-write t₀ t₁ t₂ t₃ t₄ t₅ t₆ s₁ s₂ s₃ s₄ s₅ p t b v h 
 pub put-session : (t₀ t₁ t₂ t₃ t₄ t₅ t₆ t₇ : List ℕ) (s₁ s₂ s₃ s₄ s₅ s₆ a b ca cb o : ℕ) → 27 ≤ length t₀ →
     Put t₀ t₁ 0 1 2 0 s₁ → Put t₁ t₂ 1 1 a s₁ s₂ → Put t₂ t₃ 2 1 b s₂ s₃ → Put t₃ t₄ 3 4 ca s₃ s₄ → Put t₄ t₅ 7 4 cb s₄ s₅ → Put t₅ t₆ 11 1 o s₅ s₆
     → t₇ ≡ place 24 (spelled ((256 - s₆) % 256 ∷ []) ++ (10 ∷ [])) t₆ → t₇ ≡ place 0 (frame (Session a b ca cb o)) t₀
-unfolding highFirst frame frameOf packed widths
+unfolding highFirst frame frameIn packed widthsIn journalKinds
 put-session t₀ t₁ t₂ t₃ t₄ t₅ t₆ t₇ s₁ s₂ s₃ s₄ s₅ s₆ a b ca cb o h p₁ p₂ p₃ p₄ p₅ p₆ q =
     let b₁ = [] ++ highFirst 1 2 in
     let b₂ = b₁ ++ highFirst 1 a in

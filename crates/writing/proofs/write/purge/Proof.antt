@@ -2,7 +2,7 @@
 use mathlib.Core.Path.{refl}
 use Rattle.meaning.specs.declared.Action.the-variants.{Purge}
 use Rattle.meaning.specs.Steps.{outcomeAbove}
-use Rattle.meaning.specs.Frames.{widths, frame}
+use Rattle.meaning.specs.Frames.{journalKinds, widthsIn, frame}
 use Rattle.meaning.proofs.FrameLaws.{framed-few, framed-full, length-purge}
 use borrow.Author.Needs.{needs}
 use Rattle.writing.proofs.write.purge.Statement.{statement}
@@ -15,7 +15,7 @@ returns c =
     framed-few (start .args .out .now) (Purge (start .args .node)) 7 refl (length-purge (start .args .node)) (c .if1 .taken)
 
 put-short-requires : tie.Need-put-short-requires
-unfolding widths
+unfolding widthsIn journalKinds
 put-short-requires c κs = (refl, c .before .if1 .left)
 
 same-length : tie.Need-same-length

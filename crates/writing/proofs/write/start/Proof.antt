@@ -1,6 +1,6 @@
 -- `start` meets its contract: too few bytes, or the frame.
 use mathlib.Core.Path.{refl}
-use Rattle.meaning.specs.Frames.{widths, startFrame}
+use Rattle.meaning.specs.Frames.{journalKinds, widthsIn, startFrame}
 use Rattle.meaning.proofs.FrameLaws.{started-few, started-full}
 use borrow.Author.Needs.{needs}
 use Rattle.writing.proofs.write.start.Statement.{statement}
@@ -12,7 +12,7 @@ returns c =
     started-few (start .args .out .now) (start .args .n) (start .pre) (c .if1 .taken)
 
 put-short-requires : tie.Need-put-short-requires
-unfolding widths
+unfolding widthsIn journalKinds
 put-short-requires c κs = (refl, c .before .if1 .left)
 
 same-length : tie.Need-same-length
