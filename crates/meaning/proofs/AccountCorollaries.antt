@@ -15,7 +15,7 @@ use Rattle.meaning.specs.Rows.{covers}
 use Rattle.meaning.specs.Table.{nodesMost, count, node, fresh}
 use Rattle.meaning.specs.Node.{purged}
 use Rattle.meaning.specs.Steps.{finishesA, finishesB, refusal, limit}
-use Rattle.meaning.specs.Frames.{widths, wide}
+use Rattle.meaning.specs.Frames.{journalKinds, widthsIn, wide}
 use Rattle.meaning.specs.Journals.{afterAll}
 use Rattle.meaning.specs.Account.{has, lacking, Account, nothing, gains, gainsIf, noted, Run, noteIf, stepped, ran, run}
 use Rattle.meaning.proofs.RowLaws.{all, and-left, and-right, and-both}
@@ -142,7 +142,7 @@ allWide ss = all (λ (s : Step). wide (s .action)) ss
 
 -- such a step's verdict keeps a table sound
 wide-verdict : (a : Action) → wide a ≡ true → verdictOf a ≤ 255
-unfolding wide widths
+unfolding wide widthsIn journalKinds
 wide-verdict (Write p c b v) h =
     let d = ltb v 256 in
     let e = ltb b 4294967296 in

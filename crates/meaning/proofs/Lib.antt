@@ -1,6 +1,7 @@
 pub mod Edges
 pub mod PlaceLaws
 pub mod RowLaws
+pub mod RefusalLaws
 pub mod TableLaws
 pub mod StepLaws
 pub mod FrameLaws
@@ -18,6 +19,7 @@ pub mod AccountRises
 pub mod AccountJournals
 pub mod VerdictLaws
 pub mod VerdictTheorems
+pub mod ClassRanges
 pub mod OneReply
 pub mod FrameInverses
 pub mod FrameTheorems

@@ -1,18 +1,31 @@
 -- Refusals are from document 01's lists, and no step changes a word that belongs to no node below n.
 use mathlib.Core.Path.{_≡_, refl, ap, _∙_}
-use mathlib.Core.Bool.{Bool, true, false, not, _&&_, _||_}
-use mathlib.Core.List.{List}
+use mathlib.Core.Bool.{Bool, true, false, not, _||_}
+use mathlib.Core.List.{List, [], _∷_}
 use Prim.Native.Nat.{ℕ, zero, suc, _+_, _*_, _%_, _≤_, _<_}
 use native.Mathlib.Omega.{arith}
 use lib.ListN.{length, getD}
-use lib.Dec.{leb, ltb, eqb}
+use lib.Dec.{eqb}
 use Rattle.meaning.specs.declared.Action.{Action}
 use Rattle.meaning.specs.declared.Action.the-variants.{Write, Session, Purge}
 use Rattle.meaning.specs.Rows.{given}
-use Rattle.meaning.specs.Table.{Node, logMost, summaryAt, acksAt, heldAt, logAt, count, node, putNode, sound, countRight}
+use Rattle.meaning.specs.Refusals.{test, first}
+use Rattle.meaning.specs.Table.{Node, logMost, summaryAt, acksAt, heldAt, logAt, count, node, putNode, sound}
 use Rattle.meaning.specs.Node.{wrote, purged}
 use Rattle.meaning.specs.Steps.{outcomeAbove, nodeAbsent, nodeTwice, clockBack, noRoom, refusal, limit, acted, after}
-use Rattle.meaning.specs.Frames.{allDigits, bytesOf, total, kinds, digitsOf, lineKind, lineFields, lineRefusal}
+use Rattle.meaning.specs.Frames.{
+  allDigits,
+  bytesOf,
+  total,
+  known,
+  digitsOf,
+  lineKind,
+  outcomeHigh,
+  startWrong,
+  fieldTests,
+  lineTests,
+  lineRefusal,
+}
 use Rattle.meaning.proofs.TableLaws.{Sound, Shaped, node-shaped, put-word-away}
 use Rattle.meaning.proofs.StepLaws.{
   Accepted,
@@ -88,7 +101,9 @@ after-outside t x i out = go (refusal t x) refl
 abbrev pub lineNumber : ℕ → Bool
 lineNumber k = eqb k 0 || (eqb k 11 || (eqb k 12 || (eqb k 13 || eqb k 15)))
 
-chain : (a b c d e f g : Bool) → lineNumber (given a 12 (given b 11 (given c 11 (given d 11 (given e 11 (given f 13 (given g 15 0))))))) ≡ true
+chain : (a b c d e f g : Bool)
+    → lineNumber (first (test 12 a ∷ test 11 b ∷ test 11 c ∷ test 11 d ∷ test 11 e ∷ test 13 f ∷ test 15 g ∷ [])) ≡ true
+unfolding first
 chain true b c d e f g = refl
 chain false true c d e f g = refl
 chain false false true d e f g = refl
@@ -99,9 +114,9 @@ chain false false false false false false true = refl
 chain false false false false false false false = refl
 
 pub line-listed : (l : List ℕ) → lineNumber (lineRefusal l) ≡ true
-unfolding lineRefusal
+unfolding lineRefusal lineTests fieldTests
 line-listed l =
     let bs = bytesOf l in
     let kind = lineKind bs in
-    chain (not (allDigits l)) (eqb (length l % 2) 1 || eqb (length l) 0) (leb (length kinds) kind) (not (eqb (length l) (digitsOf kind)))
-    (eqb kind 2 && ltb 3 (getD (lineFields bs) 4 0)) (not (eqb (total bs) 0)) (eqb kind 0 && not (countRight (getD (lineFields bs) 0 0)))
+    chain (not (allDigits l)) (eqb (length l % 2) 1 || eqb (length l) 0) (not (known kind)) (not (eqb (length l) (digitsOf kind))) (outcomeHigh bs)
+    (not (eqb (total bs) 0)) (startWrong bs)
