@@ -2,10 +2,13 @@
 //! the independent Rust implementation, on the same inputs, in one run, by turns. It prints a table
 //! of medians, the ratio to the better of the others, and the spread.
 
+#[path = "../tests/rust/src/layout.rs"]
+mod layout;
 #[path = "../tests/rust/src/model.rs"]
 mod model;
 
-use model::{Action, Table, WORDS};
+use layout::{JOURNAL, TEXT, WORDS};
+use model::{Action, Table};
 use std::hint::black_box;
 use std::time::Instant;
 
@@ -266,12 +269,12 @@ fn steps(rows: &mut Vec<Row>) {
 fn journal(rows: &mut Vec<Row>, name: &str, n: u8, actions: &[Action], per: usize) {
     let mut text = model::start_frame(n);
     actions.iter().for_each(|action| text.extend(model::frame(*action).unwrap()));
-    assert!(text.len() <= model::JOURNAL);
+    assert!(text.len() <= JOURNAL);
     let printed = model::replay(&text).0;
     let mut samples: Vec<Box<dyn FnMut() -> f64>> = Vec::new();
     for api in apis() {
         let (text, printed) = (text.clone(), printed.clone());
-        let (mut table, mut out) = (vec![0u32; WORDS], vec![0u8; 12288]);
+        let (mut table, mut out) = (vec![0u32; WORDS], vec![0u8; TEXT]);
         samples.push(Box::new(move || {
             let began = Instant::now();
             let length = unsafe { (api.replay)(black_box(text.as_ptr()), text.len(), table.as_mut_ptr(), WORDS, out.as_mut_ptr(), out.len()) };
