@@ -1,6 +1,8 @@
 //! The benchmark: the proved library, a plain C version written for speed (under two compilers) and
 //! the independent Rust implementation, on the same inputs, in one run, by turns. It prints a table
-//! of medians, the ratio to the better of the others, and the spread.
+//! of medians, the ratio to the better of the others, and the spread. A row's name says its case (what
+//! is done, on how large a table) and stays when a request changes what the case costs; a new case is a
+//! new row.
 
 #[path = "../tests/rust/src/layout.rs"]
 mod layout;
@@ -321,7 +323,7 @@ fn journals(rows: &mut Vec<Row>) {
         .parse()
         .unwrap();
     eprintln!("the full journal: {} steps, {refused} refused", mixed.len());
-    journal(rows, "the run of a full journal (7 nodes, 2400 steps)", 7, &mixed, 1);
+    journal(rows, "the run of a full journal", 7, &mixed, 1);
 }
 
 fn counts(rows: &mut Vec<Row>) {
@@ -354,6 +356,9 @@ fn main() {
     steps(&mut rows);
     journals(&mut rows);
     counts(&mut rows);
+    // a row is known by its name, from one request to the next: a name is never given twice, nor to another case
+    let names: std::collections::BTreeSet<&str> = rows.iter().map(|row| row.name.as_str()).collect();
+    assert_eq!(names.len(), rows.len(), "two rows with one name");
     // words on the command line choose the rows whose name has one of them
     let chosen: Vec<String> = std::env::args().skip(1).collect();
     rows.retain(|row| chosen.is_empty() || chosen.iter().any(|word| row.name.contains(word)));
