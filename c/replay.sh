@@ -53,13 +53,14 @@ replayed() {
     child=''
     exec 3<&-
     [ "$ended" -eq 0 ] || wrong "the program ended with status $ended"
-    first=''
-    read -r first _ <"$kept" || true
-    case $first in
-    N) status=0 ;;
-    BAD) status=1 ;;
+    word='' n=0
+    read -r word n _ <"$kept" || true
+    case $word in
+    N) status=0 lines=$((n + 1)) ;;
+    BAD) status=1 lines=1 ;;
     *) exit 2 ;; # the program has said why
     esac
+    [ "$(wc -l <"$kept")" -eq "$lines" ] || wrong 'there was no room to keep all of the text'
     sent=0
     cat "$kept" 2>/dev/null || sent=$?
     [ "$sent" -le 128 ] || exit "$sent" # nobody reads any more
