@@ -26,7 +26,7 @@ $usage" ;;
     [ $# -le 1 ] || wrong "more than one journal
 $usage"
     if [ $# -eq 0 ] || [ "$1" = - ]; then
-        { true <&0; } 2>/dev/null || wrong 'standard input is closed'
+        { true 3<&0; } 2>/dev/null || wrong 'standard input is closed'
         return
     fi
     [ -e "$1" ] || wrong "$1: no such file"
@@ -38,7 +38,7 @@ $usage"
 # Runs the program, these words, on standard input and ends by what it wrote. All of that is kept first, so that nothing is printed of a run that
 # failed; at a signal the program is stopped too and nothing is left.
 replayed() {
-    { true >&1; } 2>/dev/null || wrong 'standard output is closed'
+    { true 3>&1; } 2>/dev/null || wrong 'standard output is closed'
     child='' kept=$(mktemp "${TMPDIR:-/tmp}/replay.XXXXXX") || wrong 'no temporary file'
     trap 'rm -f "$kept"' EXIT
     for signal in HUP INT TERM; do
@@ -53,13 +53,14 @@ replayed() {
     child=''
     exec 3<&-
     [ "$ended" -eq 0 ] || wrong "the program ended with status $ended"
-    first=''
-    read -r first _ <"$kept" || true
-    case $first in
-    N) status=0 ;;
-    BAD) status=1 ;;
+    word='' n=0
+    read -r word n _ <"$kept" || true
+    case $word in
+    N) status=0 lines=$((n + 1)) ;;
+    BAD) status=1 lines=1 ;;
     *) exit 2 ;; # the program has said why
     esac
+    [ "$(wc -l <"$kept")" -eq "$lines" ] || wrong 'there was no room to keep all of the text'
     sent=0
     cat "$kept" 2>/dev/null || sent=$?
     [ "$sent" -le 128 ] || exit "$sent" # nobody reads any more
@@ -68,7 +69,7 @@ replayed() {
 }
 
 stopped() {
-    [ -z "$child" ] || kill "$child" 2>/dev/null
+    [ -z "$child" ] || { kill "$child" && wait "$child"; } 2>/dev/null
     rm -f "$kept"
     trap - EXIT "$1"
     kill -s "$1" $$

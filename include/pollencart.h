@@ -2,7 +2,7 @@
  *
  * No call keeps state, allocates, or looks at anything but what it is lent. Every input, however wrong, gets a definite answer;
  * a call that refuses answers one of the numbers below. What C must keep, since no call can test it:
- *   - each pointer is valid for as many elements as its length says, and each word that a count or a length is stored to is there;
+ *   - each pointer is valid for as many elements as its length says, those that counts and lengths are stored to for one word;
  *   - each length is the true one;
  *   - what one call is lent does not overlap, and no other thread writes to it during the call.
  *
