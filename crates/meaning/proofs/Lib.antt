@@ -23,4 +23,5 @@ pub mod VerdictTheorems
 pub mod OneReply
 pub mod FrameInverses
 pub mod FrameTheorems
+pub mod WideLaws
 pub mod Numbers
