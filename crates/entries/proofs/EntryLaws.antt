@@ -9,10 +9,10 @@ use lib.ListN.{length, getD, List·getD-eq-default}
 use lib.Dec.{ltb}
 use Rattle.meaning.specs.declared.Record.{Record}
 use Rattle.meaning.specs.Rows.{recordAt, words}
-use Rattle.meaning.specs.Table.{nodesMost, logMost, summaryAt, acksAt, logAt, part, count, held, node, sound}
+use Rattle.meaning.specs.Table.{nodesMost, logMost, summaryAt, acksAt, logAt, part, count, held, node, sound, Sound}
 use Rattle.meaning.proofs.PlaceLaws.{getD-part, length-part}
 use Rattle.meaning.proofs.RowLaws.{and-left, and-right, getD-records}
-use Rattle.meaning.proofs.TableLaws.{Sound, sound-facts, held-log}
+use Rattle.meaning.proofs.TableLaws.{sound-facts, held-log}
 use Rattle.entries.specs.Entries.{present, summaryEntry, ackEntry, heldNumber, nothing, recordWord}
 
 -- an entry of a row of n, by the test of the place

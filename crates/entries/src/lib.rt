@@ -3,8 +3,7 @@ ghost use mathlib.Core.Path.{_≡_};
 ghost use mathlib.Core.Bool.{true};
 ghost use Prim.Native.Nat.{_+_, _≤_};
 ghost use lib.ListN.{getD};
-ghost use Rattle.meaning.specs.Table.{tableWords, nodesMost, part, count};
-ghost use Rattle.meaning.proofs.TableLaws.{Sound};
+ghost use Rattle.meaning.specs.Table.{tableWords, nodesMost, part, count, Sound};
 ghost use Rattle.entries.specs.Entries.{present, summaryEntry, ackEntry, heldNumber, recordWord};
 use layout::RECORD_WORDS;
 

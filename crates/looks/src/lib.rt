@@ -1,9 +1,8 @@
 // Words of a sound table, read through their offsets.
 ghost use mathlib.Core.Path.{_≡_};
 ghost use Prim.Native.Nat.{_≤_, _<_};
-ghost use Rattle.meaning.specs.Table.{nodesMost, logMost, count, held, node};
+ghost use Rattle.meaning.specs.Table.{nodesMost, logMost, count, held, node, Sound};
 ghost use Rattle.meaning.specs.Node.{own};
-ghost use Rattle.meaning.proofs.TableLaws.{Sound};
 
 // n, the number of nodes.
 pub fn nodes_of(t: &[u32]) -> usize

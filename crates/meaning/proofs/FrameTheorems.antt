@@ -383,9 +383,10 @@ written-reads out x line k p e = go (writerRefusal out x) refl
         let long : length (frame x) ≡ k = cc (r .0) in
         let within = written-within out x q in
         let n : length (ends .0) ≡ k - 1 = omega (arith, ap length (ends .1), length-append (ends .0) (10 ∷ [])) in
-        let text : frameAfter out x ≡ ends .0 ++ (10 ∷ drop (0 + length (frame x)) out)
-        = sym (r .1) ∙ ap (λ (f : List ℕ). f ++ drop (0 + length (frame x)) out) (ends .1) ∙ append-assoc (ends .0) (10 ∷ []) (drop (0 + length (frame x)) out) in
-        rw (text, take-at (ends .0) (10 ∷ drop (0 + length (frame x)) out) (k - 1) n) (frame-reads x line (ends .0) p within (ends .1))
+        let rest = drop (0 + length (frame x)) out in
+        let text : frameAfter out x ≡ ends .0 ++ (10 ∷ rest)
+        = sym (r .1) ∙ ap (λ (f : List ℕ). f ++ rest) (ends .1) ∙ append-assoc (ends .0) (10 ∷ []) rest in
+        rw (text, take-at (ends .0) (10 ∷ rest) (k - 1) n) (frame-reads x line (ends .0) p within (ends .1))
 
 pub started-reads : (out : List ℕ) (n line k : ℕ) → startReply out n ≡ Length k → readLine line (take (k - 1) (startAfter out n)) ≡ Begin n
 unfolding place
@@ -402,6 +403,7 @@ started-reads out n line k e = go (starterRefusal out n) refl
         let long : length (startFrame n) ≡ k = cc (r .0) in
         let right = started-within out n q in
         let s : length (ends .0) ≡ k - 1 = omega (arith, ap length (ends .1), length-append (ends .0) (10 ∷ [])) in
-        let text : startAfter out n ≡ ends .0 ++ (10 ∷ drop (0 + length (startFrame n)) out)
-        = sym (r .1) ∙ ap (λ (f : List ℕ). f ++ drop (0 + length (startFrame n)) out) (ends .1) ∙ append-assoc (ends .0) (10 ∷ []) (drop (0 + length (startFrame n)) out) in
-        rw (text, take-at (ends .0) (10 ∷ drop (0 + length (startFrame n)) out) (k - 1) s) (start-reads n line (ends .0) right (ends .1))
+        let rest = drop (0 + length (startFrame n)) out in
+        let text : startAfter out n ≡ ends .0 ++ (10 ∷ rest)
+        = sym (r .1) ∙ ap (λ (f : List ℕ). f ++ rest) (ends .1) ∙ append-assoc (ends .0) (10 ∷ []) rest in
+        rw (text, take-at (ends .0) (10 ∷ rest) (k - 1) s) (start-reads n line (ends .0) right (ends .1))

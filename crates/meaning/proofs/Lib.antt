@@ -24,4 +24,5 @@ pub mod ClassRanges
 pub mod OneReply
 pub mod FrameInverses
 pub mod FrameTheorems
+pub mod WideLaws
 pub mod Numbers

@@ -1,15 +1,16 @@
 -- Laws of a table and its nodes: a node that was put is read again, another is as it was, and soundness is kept.
 use mathlib.Core.Path.{_≡_, refl, sym, ap, _∙_}
-use mathlib.Core.Bool.{Bool, true, _&&_}
+use mathlib.Core.Bool.{Bool, true, false, not, _&&_, cond}
 use mathlib.Core.List.{List, [], _∷_, _++_, List·Memᴰ, List·Memᴰ·head, List·Memᴰ·tail}
 use Prim.Native.Nat.{ℕ, _+_, _-_, _*_, _≤_, _<_}
 use native.Mathlib.Decide.{ℕ-discrete}
 use native.Mathlib.Omega.{arith}
-use borrow.Author.Tests.{leb-true, ltb-true, eqb-true, le-leb, eq-eqb}
+use borrow.Author.Tests.{leb-true, ltb-true, eqb-true, le-leb, eq-eqb, ne-eqb}
 use lib.ListN.{length, getD, replicate, length-append, length-replicate, List·getD-append}
 use lib.Dec.{leb, ltb, eqb}
 use Rattle.meaning.specs.declared.Record.{Record}
 use Rattle.meaning.specs.Rows.{every, all, records, words}
+use Rattle.meaning.specs.Refusals.{first}
 use Rattle.meaning.specs.Table.{
   Node,
   tableWords,
@@ -30,6 +31,7 @@ use Rattle.meaning.specs.Table.{
   pieces,
   putNode,
   countRight,
+  freshRefusal,
   recordSound,
   logSound,
   sound,
@@ -115,6 +117,24 @@ facts-sound t s =
     (λ p q.
     logSound-is t p ∙
     and-both (leb (held t p) logMost) (all (recordSound (count t)) (node t p .log)) (le-leb (held t p) logMost (s .room p q)) (s .right p q))))
+
+-- The refusals of a fresh table's making
+module _ (t : List ℕ) (n : ℕ) where
+  pub fresh-count-wrong : countRight n ≡ false → freshRefusal t n ≡ 1
+  unfolding freshRefusal first
+  fresh-count-wrong h = rw h
+
+  pub fresh-length-wrong : (length t ≡ tableWords → ⊥) → freshRefusal t n ≡ 1
+  unfolding freshRefusal first
+  fresh-length-wrong h = rw (ne-eqb (length t) tableWords h) (go (countRight n) 1)
+    where
+      go : (b : Bool) (k : ℕ) → cond (not b) k k ≡ k
+      go true k = refl
+      go false k = refl
+
+  pub fresh-right : countRight n ≡ true → length t ≡ tableWords → freshRefusal t n ≡ 0
+  unfolding freshRefusal first
+  fresh-right c l = rw (c, eq-eqb (length t) tableWords l)
 
 pub node-shaped : (t : List ℕ) → Sound t → (p : ℕ) → p < count t → Shaped (count t) (node t p)
 unfolding node

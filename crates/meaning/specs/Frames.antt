@@ -1,4 +1,5 @@
 -- Frames: digits, the check, the frame of a step and of a start, and what a line means. Document 01, "Frames and journals".
+use mathlib.Core.Path.{_≡_}
 use mathlib.Core.Bool.{Bool, true, false, not, _&&_, _||_, cond}
 use mathlib.Core.List.{List, [], _∷_, _++_}
 use Prim.Native.Nat.{ℕ, zero, suc, _+_, _-_, _*_, _/_, _%_, _^_}
@@ -173,6 +174,13 @@ startReply out n = framed (starterRefusal out n) (startFrame n)
 
 unfoldable pub startAfter : List ℕ → ℕ → List ℕ
 startAfter out n = unless (starterRefusal out n) (place 0 (startFrame n) out) out
+
+-- a writer's answer and the lent bytes at its exit, for a step and for a start
+abbrev pub Wrote : List ℕ → Action → Framed → List ℕ → Type 0
+Wrote out x r out′ = (r ≡ frameReply out x) × (out′ ≡ frameAfter out x)
+
+abbrev pub Began : List ℕ → ℕ → Framed → List ℕ → Type 0
+Began out n r out′ = (r ≡ startReply out n) × (out′ ≡ startAfter out n)
 
 abbrev pub framedValues : Framed → List ℕ
 framedValues (Length k) = 0 ∷ k ∷ []

@@ -5,9 +5,8 @@ use mathlib.Core.Bool.{true}
 use mathlib.Core.List.{List, [], _∷_}
 use Prim.Native.Nat.{ℕ, _+_, _*_, _≤_, _<_}
 use lib.ListN.{length}
-use Rattle.meaning.specs.Rows.{newer, recordAt, records}
+use Rattle.meaning.specs.Rows.{newer, recordAt, records, all}
 use Rattle.meaning.specs.Table.{logMost, part, recordSound}
-use Rattle.meaning.proofs.RowLaws.{all}
 
 pub record Carries (t : List ℕ) (from row to : ℕ) (summary : List ℕ) : Type 0 where
   pub inside : from + 4 * logMost ≤ length t

@@ -17,12 +17,12 @@ use Rattle.meaning.specs.declared.Step.{Step}
 use Rattle.meaning.specs.declared.Next.the-variants.{Begin as BeginAt, Act as ActAt, Refused as RefusedAt, End}
 use Rattle.meaning.specs.declared.Outcome.the-variants.{Bad, Done}
 use Rattle.meaning.specs.Steps.{refusal, reported, replied, reply, after}
-use Rattle.meaning.specs.Table.{tableWords, nodesMost, countRight, fresh, freshRefusal, madeFresh}
+use Rattle.meaning.specs.Table.{tableWords, nodesMost, countRight, fresh, madeFresh, Sound}
 use Rattle.meaning.specs.Journals.{Steps, Journal, none, broken, step∷, oneIf, nextAt, stepsFrom, journal, afterAll, refusedOf, outcomeOf, replayed, startedFrom, replayAfter}
 use Rattle.meaning.proofs.Action as A
 use Rattle.meaning.proofs.Action.Laws as A′
-use Rattle.meaning.proofs.TableLaws.{Sound}
 use Rattle.meaning.proofs.RowLaws.{and-left, and-right}
+use Rattle.meaning.proofs.TableLaws.{fresh-right}
 use Rattle.meaning.proofs.StepLaws.{verdictOf, fresh-sound}
 use Rattle.meaning.proofs.AccountJournals.{started}
 use Rattle.meaning.proofs.JournalLaws.{steps-act, steps-end}
@@ -146,8 +146,8 @@ one-most (suc k) = omega arith
 
 -- a fresh table is made, and is sound
 pub made-fresh : (t : List ℕ) (n : ℕ) → length t ≡ tableWords → countRight n ≡ true → madeFresh t n ≡ fresh n
-unfolding madeFresh freshRefusal
-made-fresh t n l c = rw (c, eq-eqb (length t) tableWords l)
+unfolding madeFresh
+made-fresh t n l c = rw (fresh-right t n c l)
 
 pub right-sound : (n : ℕ) → countRight n ≡ true → Sound (fresh n)
 right-sound n c = fresh-sound n (leb-true 2 n (and-left (leb 2 n) (leb n nodesMost) c)) (leb-true n nodesMost (and-right (leb 2 n) (leb n nodesMost) c))

@@ -5,13 +5,11 @@ ghost use mathlib.Core.Bool.{false, _||_, _&&_};
 ghost use Prim.Native.Nat.{_+_, _≤_, _<_};
 ghost use lib.ListN.{length, take};
 ghost use lib.Dec.{eqb, ltb};
-ghost use Rattle.meaning.specs.Rows.{given, newer, unless};
-ghost use Rattle.meaning.specs.Table.{nodesMost, logMost, count, held, node, place, summaryAt, acksAt};
+ghost use Rattle.meaning.specs.Table.{nodesMost, logMost, count, held, node, place, summaryAt, acksAt, Sound};
 ghost use Rattle.meaning.specs.Node.{opened};
-ghost use Rattle.meaning.specs.Steps.{clockBack, noRoom, acted, reported, replied, reply, after};
+ghost use Rattle.meaning.specs.Steps.{reply, after, replyFrom, afterFrom};
 ghost use Rattle.meaning.specs.declared.Action.{Action};
 ghost use Rattle.meaning.specs.declared.Reply.{Reply};
-ghost use Rattle.meaning.proofs.TableLaws.{Sound};
 ghost use Rattle.sides.specs.Begun.{begun, came, grown, heldLog, merged, Exchanged, Meets, Merges, Takes};
 use looks::held_of;
 use looks::nodes_of;
@@ -61,7 +59,7 @@ fn exchange(
 // The session between two different nodes of the table: refused with 5 or 6, or done.
 fn meet(t: &mut [u32], a: usize, b: usize, ca: u32, cb: u32, outcome: u8) -> Reply
     requires { ⌜ Sound (now t) × (a < count (now t)) × (b < count (now t)) × (a ≡ b → ⊥) ⌝ }
-    ensures { λ r. ⌜ (r ≡ replied (given (clockBack (now (t .entry)) (Action.Session a b ca cb outcome)) 5 (given (noRoom (now (t .entry)) (Action.Session a b ca cb outcome)) 6 0)) (reported (now (t .entry)) (Action.Session a b ca cb outcome))) × (now (t .exit) ≡ unless (given (clockBack (now (t .entry)) (Action.Session a b ca cb outcome)) 5 (given (noRoom (now (t .entry)) (Action.Session a b ca cb outcome)) 6 0)) (acted (now (t .entry)) (Action.Session a b ca cb outcome)) (now (t .entry))) ⌝ }
+    ensures { λ r. ⌜ (r ≡ replyFrom 5 (now (t .entry)) (Action.Session a b ca cb outcome)) × (now (t .exit) ≡ afterFrom 5 (now (t .entry)) (Action.Session a b ca cb outcome)) ⌝ }
 {
     if ca < own_of(t, a) {
         return Reply::Refused { number: 5 };

@@ -8,12 +8,12 @@ use borrow.Author.Tests.{ltb-false}
 use lib.ListN.{length, length-append}
 use lib.Dec.{ltb}
 use Rattle.meaning.specs.declared.Record.{Record}
-use Rattle.meaning.specs.Rows.{newer, raise, recordAt, records}
-use Rattle.meaning.specs.Table.{Node, logMost, logAt, summaryAt, acksAt, part, place, count, held, node, putNode, recordSound}
+use Rattle.meaning.specs.Rows.{newer, raise, recordAt, records, all}
+use Rattle.meaning.specs.Table.{Node, logMost, logAt, summaryAt, acksAt, part, place, count, held, node, putNode, recordSound, Sound, Shaped}
 use Rattle.meaning.specs.Node.{finished, ended}
 use Rattle.meaning.specs.Steps.{overfull, carried}
-use Rattle.meaning.proofs.RowLaws.{all, all-row, every-all, every-records}
-use Rattle.meaning.proofs.TableLaws.{Sound, Shaped, held-log, node-shaped, put-held}
+use Rattle.meaning.proofs.RowLaws.{all-row, every-all, every-records}
+use Rattle.meaning.proofs.TableLaws.{held-log, node-shaped, put-held}
 use Rattle.meaning.proofs.PutLaws.{put-grown, grown-none, settle-put}
 use Rattle.meaning.proofs.StepLaws.{taken, ended-log, ended-shaped, once-sound, once-count, once-held, once-log, once-began}
 use Rattle.sides.specs.Begun.{begun, came, grown, heldLog, merged, Meets, Takes}
@@ -68,8 +68,8 @@ module _ (t : List ℕ) (a b : ℕ) (sa ka sb kb : List ℕ) (ha hb : ℕ) (m : 
       let h = m .isSound .high in
       let g = m .hereA in
       let p =
-      put-held t (m .isSound .long) (count t) h a (omega arith) (ended f x y)
-      (ended-shaped (count t) x (begun-shaped t a b sa ka sb kb m) y (begun-shaped t b a sb kb sa ka (turned t a b sa ka sb kb m)) f room) (m .isSound .room a g)
+      put-held t (m .isSound) a g (ended f x y)
+      (ended-shaped (count t) x (begun-shaped t a b sa ka sb kb m) y (begun-shaped t b a sb kb sa ka (turned t a b sa ka sb kb m)) f room)
       in
       let l = ap length (ended-log f x y) ∙ length-append (node t a .log) (taken f x y) in
       let c = carried-taken f x y in

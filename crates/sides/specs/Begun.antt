@@ -8,11 +8,11 @@ use lib.ListN.{length}
 use Rattle.meaning.specs.declared.Record.{Record}
 use Rattle.meaning.specs.declared.Reply.{Reply}
 use Rattle.meaning.specs.declared.Reply.the-variants.{Carried}
-use Rattle.meaning.specs.Rows.{given, unless, newer, raise, records, words}
-use Rattle.meaning.specs.Table.{Node, tableWords, nodesMost, logMost, heldAt, logAt, part, place, count, held, node, putNode}
+use Rattle.meaning.specs.Refusals.{test, first}
+use Rattle.meaning.specs.Rows.{unless, newer, raise, records, words}
+use Rattle.meaning.specs.Table.{Node, tableWords, nodesMost, logMost, heldAt, logAt, part, place, count, held, node, putNode, Sound}
 use Rattle.meaning.specs.Node.{ended}
 use Rattle.meaning.specs.Steps.{finishesA, finishesB, overfull, carried, replied}
-use Rattle.meaning.proofs.TableLaws.{Sound}
 
 -- the node that a side's starting rows and a log make
 abbrev pub begun : List ℕ → List ℕ → List Record → Node
@@ -71,10 +71,10 @@ crowded t o a b sa ka sb kb =
 pub record Exchanged (t : List ℕ) (o a b : ℕ) (sa ka sb kb : List ℕ) (r : Reply) (u : List ℕ) : Type 0 where
   pub replies :
       r ≡
-      replied (given (crowded t o a b sa ka sb kb) 6 0)
+      replied (first (test 6 (crowded t o a b sa ka sb kb) ∷ []))
       (Carried (carried (finishesA o) (begun sa ka (node t a .log)) (begun sb kb (node t b .log))) (carried (finishesB o) (begun sb kb (node t b .log)) (begun sa ka (node t a .log))))
   pub leaves :
       u ≡
-      unless (given (crowded t o a b sa ka sb kb) 6 0)
+      unless (first (test 6 (crowded t o a b sa ka sb kb) ∷ []))
       (putNode b (ended (finishesB o) (begun sb kb (node t b .log)) (begun sa ka (node t a .log))) (putNode a (ended (finishesA o) (begun sa ka (node t a .log)) (begun sb kb (node t b .log))) t))
       t

@@ -2,9 +2,8 @@
 // The entry points, `fresh`, `apply` and those of `act`, take any words at all; what the crates below them require, they have shown.
 
 ghost use mathlib.Core.Path.{_≡_};
-ghost use Rattle.meaning.specs.Table.{freshRefusal, madeFresh};
+ghost use Rattle.meaning.specs.Table.{freshRefusal, madeFresh, Sound};
 ghost use Rattle.meaning.specs.Steps.{reply, after};
-ghost use Rattle.meaning.proofs.TableLaws.{Sound};
 use meaning::Action;
 use meaning::Reply;
 use meaning::Step;

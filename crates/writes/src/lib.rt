@@ -2,10 +2,9 @@
 ghost use mathlib.Core.Path.{_≡_};
 ghost use Prim.Native.Nat.{_<_};
 ghost use Rattle.meaning.specs.declared.Action.{Action};
-ghost use Rattle.meaning.specs.Table.{logMost, count, held, node, putNode};
+ghost use Rattle.meaning.specs.Table.{logMost, count, held, node, putNode, Sound};
 ghost use Rattle.meaning.specs.Node.{wrote};
 ghost use Rattle.meaning.specs.Steps.{reply, after};
-ghost use Rattle.meaning.proofs.TableLaws.{Sound};
 use looks::held_of;
 use looks::nodes_of;
 use looks::own_of;

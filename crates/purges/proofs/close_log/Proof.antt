@@ -7,10 +7,10 @@ use mathlib.Core.List.{List, _++_}
 use lib.ListN.{length, take, drop}
 use Rattle.meaning.specs.declared.Record.{Record}
 use Rattle.meaning.specs.Rows.{above, records, words}
-use Rattle.meaning.specs.Table.{count, held, node, part, place, logAt, tableWords, logMost}
+use Rattle.meaning.specs.Table.{count, held, node, part, place, logAt, tableWords, logMost, Sound}
 use Rattle.meaning.proofs.PlaceLaws.{mid-place, place-inner, length-place, length-part}
 use Rattle.meaning.proofs.RowLaws.{length-above, length-words}
-use Rattle.meaning.proofs.TableLaws.{Sound, held-log}
+use Rattle.meaning.proofs.TableLaws.{held-log}
 use borrow.Author.Needs.{needs}
 use Rattle.purges.proofs.close_log.Statement.{statement}
 use Rattle.purges.proofs.close_log.Tie as tie

@@ -5,8 +5,7 @@ use mathlib.Core.List.{List, [], _∷_}
 use lib.ListN.{length, replicate}
 use Rattle.meaning.specs.Rows.{above, words}
 use Rattle.meaning.specs.Node.{purged}
-use Rattle.meaning.specs.Table.{count, held, node, place, putNode, logAt, heldAt}
-use Rattle.meaning.proofs.TableLaws.{Sound}
+use Rattle.meaning.specs.Table.{count, held, node, place, putNode, logAt, heldAt, Sound}
 use Rattle.meaning.proofs.PutLaws.{purge-put}
 use borrow.Author.Needs.{needs}
 use Rattle.purges.proofs.drop_rows.Statement.{statement}

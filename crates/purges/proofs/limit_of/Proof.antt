@@ -6,8 +6,7 @@ use mathlib.Core.List.{List}
 use lib.ListN.{length, take, drop, length-take, length-drop}
 use Rattle.meaning.specs.Rows.{least}
 use Rattle.meaning.specs.Steps.{limit}
-use Rattle.meaning.specs.Table.{count, node, part, acksAt}
-use Rattle.meaning.proofs.TableLaws.{Sound}
+use Rattle.meaning.specs.Table.{count, node, part, acksAt, Sound}
 use borrow.Author.Needs.{needs}
 use Rattle.purges.proofs.limit_of.Statement.{statement}
 use Rattle.purges.proofs.limit_of.Tie as tie

@@ -4,15 +4,14 @@ use Prim.Native.Nat.{ℕ, _-_, _<_, _≤_}
 use native.Mathlib.Omega.{arith}
 use mathlib.Core.List.{List}
 use lib.ListN.{length}
-use borrow.Author.Tests.{le-leb, lt-leb}
 use Rattle.meaning.specs.declared.Reply.the-variants.{Purged, Refused}
 use Rattle.meaning.specs.declared.Action.the-variants.{Purge}
 use Rattle.meaning.specs.Rows.{above}
-use Rattle.meaning.specs.Table.{count, held, node, putNode}
+use Rattle.meaning.specs.Table.{count, held, node, putNode, Sound}
 use Rattle.meaning.specs.Node.{purged}
 use Rattle.meaning.specs.Steps.{limit, reply, after, acted, reported}
-use Rattle.meaning.proofs.TableLaws.{Sound, held-log}
-use Rattle.meaning.proofs.StepLaws.{purge-refusal, refuse, accept}
+use Rattle.meaning.proofs.TableLaws.{held-log}
+use Rattle.meaning.proofs.StepLaws.{purge-is-3, purge-is-0, refuse, accept}
 use borrow.Author.Needs.{needs}
 use Rattle.purges.proofs.purge.Statement.{statement}
 use Rattle.purges.proofs.purge.Tie as tie
@@ -25,7 +24,7 @@ use Rattle.purges.proofs.limit_of.Reads as limit-of-reads
 
 module _ (t : List ℕ) (s : Sound t) (p : ℕ) where
   absent : (n : ℕ) → n ≡ count t → n ≤ p → (Refused 3 ≡ reply t (Purge p)) × (t ≡ after t (Purge p))
-  absent n e h = refuse t (Purge p) 2 (purge-refusal t s p ∙ rw (le-leb (count t) p (omega arith)))
+  absent n e h = refuse t (Purge p) 2 (purge-is-3 t s p (omega arith))
 
   done :
       (n k m left : ℕ) (u : List ℕ) → n ≡ count t → p < n → k ≡ held t p → m ≡ limit t p → left ≡ length (above m (node t p .log)) →
@@ -33,7 +32,7 @@ module _ (t : List ℕ) (s : Sound t) (p : ℕ) where
       (Purged (k - left) ≡ reply t (Purge p)) × (u ≡ after t (Purge p))
   unfolding reported acted purged
   done n k m left u en h ek el ef eu =
-      let a = accept t (Purge p) (purge-refusal t s p ∙ rw (lt-leb (count t) p (omega arith))) in
+      let a = accept t (Purge p) (purge-is-0 t s p (omega arith)) in
       let f : left ≡ length (above (limit t p) (node t p .log)) = ef ∙ ap (λ (m : ℕ). length (above m (node t p .log))) el in (
         ap₂ (λ (x y : ℕ). Purged (x - y)) (ek ∙ held-log t p) f ∙ a .0,
         eu ∙ ap (λ (m : ℕ). putNode p (purged m (node t p)) t) el ∙ a .1,

@@ -9,11 +9,11 @@ use lib.Dec.{ltb}
 use Rattle.meaning.specs.declared.Record.{Record}
 use Rattle.meaning.specs.declared.Reply.{Reply}
 use Rattle.meaning.specs.declared.Reply.the-variants.{Carried, Refused}
+use Rattle.meaning.specs.Refusals.{first}
 use Rattle.meaning.specs.Rows.{newer}
-use Rattle.meaning.specs.Table.{tableWords, logMost, count, node, held, place, putNode, summaryAt, acksAt}
+use Rattle.meaning.specs.Table.{tableWords, logMost, count, node, held, place, putNode, summaryAt, acksAt, Sound}
 use Rattle.meaning.specs.Node.{ended}
 use Rattle.meaning.specs.Steps.{finishesA, finishesB, overfull, carried}
-use Rattle.meaning.proofs.TableLaws.{Sound}
 use Rattle.sides.specs.Begun.{begun, came, grown, heldLog, merged, Exchanged, Meets, Merges, Takes}
 use Rattle.sides.proofs.Meeting.{whole-log, turned, halfTable, half-log, half-began, half-held, half-takes, crowd, side-put, came-carried}
 use borrow.Author.Needs.{needs}
@@ -48,11 +48,13 @@ said t p q s k s′ k′ mh th em et f r x er h =
 
 module _ (t : List ℕ) (o a b : ℕ) (sa ka sb kb : List ℕ) (f g : Bool) (ef : f ≡ finishesA o) (eg : g ≡ finishesB o) where
   fullA : overfull f (begun sa ka (node t a .log)) (begun sb kb (node t b .log)) ≡ true → Exchanged t o a b sa ka sb kb (Refused 6) t
+  unfolding first
   fullA x =
       let h = ap (λ (z : Bool). overfull z (begun sa ka (node t a .log)) (begun sb kb (node t b .log))) (sym ef) ∙ x in
       record { replies = rw h; leaves = rw h }
 
   fullB : overfull g (begun sb kb (node t b .log)) (begun sa ka (node t a .log)) ≡ true → Exchanged t o a b sa ka sb kb (Refused 6) t
+  unfolding first
   fullB x =
       let h = ap (λ (z : Bool). overfull z (begun sb kb (node t b .log)) (begun sa ka (node t a .log))) (sym eg) ∙ x in
       let e = or-true (overfull (finishesA o) (begun sa ka (node t a .log)) (begun sb kb (node t b .log))) in
@@ -63,6 +65,7 @@ module _ (t : List ℕ) (o a b : ℕ) (sa ka sb kb : List ℕ) (f g : Bool) (ef 
       (r ≡ Carried (carried f (begun sa ka (node t a .log)) (begun sb kb (node t b .log))) (carried g (begun sb kb (node t b .log)) (begun sa ka (node t a .log)))) ×
       (u ≡ putNode b (ended g (begun sb kb (node t b .log)) (begun sa ka (node t a .log))) (putNode a (ended f (begun sa ka (node t a .log)) (begun sb kb (node t b .log))) t)) →
       Exchanged t o a b sa ka sb kb r u
+  unfolding first
   done x y r u e =
       let h = ap (λ (z : Bool). overfull z (begun sa ka (node t a .log)) (begun sb kb (node t b .log))) (sym ef) ∙ x in
       let i = ap (λ (z : Bool). overfull z (begun sb kb (node t b .log)) (begun sa ka (node t a .log))) (sym eg) ∙ y in

@@ -1,21 +1,18 @@
 -- `sessions::meet` meets its contract: 5 where a reading is behind its node's own entry, or the exchange.
 use mathlib.Core.Path.{_≡_, ap, _∙_}
-use mathlib.Core.Bool.{or-true}
 use mathlib.Core.List.{List}
 use Prim.Native.Nat.{ℕ, _-_, _<_, _≤_}
 use native.Mathlib.Omega.{arith}
-use borrow.Author.Tests.{lt-ltb, le-ltb}
 use lib.ListN.{length, take}
-use lib.Dec.{ltb}
 use Rattle.meaning.specs.declared.Reply.{Reply}
 use Rattle.meaning.specs.declared.Reply.the-variants.{Refused}
 use Rattle.meaning.specs.declared.Action.the-variants.{Session}
-use Rattle.meaning.specs.Rows.{given, unless}
-use Rattle.meaning.specs.Table.{Node, node, count}
+use Rattle.meaning.specs.Refusals.{from}
+use Rattle.meaning.specs.Table.{Node, node, count, Sound}
 use Rattle.meaning.specs.Node.{own, opened}
-use Rattle.meaning.specs.Steps.{clockBack, noRoom, acted, reported, replied}
-use Rattle.meaning.proofs.TableLaws.{Sound, node-shaped}
-use Rattle.meaning.proofs.StepLaws.{opened-shaped}
+use Rattle.meaning.specs.Steps.{refusals, acted, reported, replyFrom, afterFrom}
+use Rattle.meaning.proofs.TableLaws.{node-shaped}
+use Rattle.meaning.proofs.StepLaws.{opened-shaped, meet-is-5-a, meet-is-5-b, meet-from-6}
 use Rattle.sides.specs.Begun.{begun, Exchanged, Meets}
 use borrow.Author.Needs.{needs}
 use Rattle.sessions.proofs.meet.Statement.{statement}
@@ -30,20 +27,15 @@ use Rattle.sides.proofs.opening.Reads as opening-reads
 module _ (t : List ℕ) (s : Sound t) (a b : ℕ) (ha : a < count t) (hb : b < count t) (apart : a ≡ b → ⊥) (ca cb o : ℕ) where
   -- what is asked of the reply r and the words u
   Right : Reply → List ℕ → Type 0
-  Right r u =
-      (r ≡ replied (given (clockBack t (Session a b ca cb o)) 5 (given (noRoom t (Session a b ca cb o)) 6 0)) (reported t (Session a b ca cb o))) ×
-      (u ≡ unless (given (clockBack t (Session a b ca cb o)) 5 (given (noRoom t (Session a b ca cb o)) 6 0)) (acted t (Session a b ca cb o)) t)
+  Right r u = (r ≡ replyFrom 5 t (Session a b ca cb o)) × (u ≡ afterFrom 5 t (Session a b ca cb o))
 
   backA : (x : ℕ) → x ≡ own a (node t a) → ca < x → Right (Refused 5) t
-  unfolding clockBack Right
-  backA x e h = let g = lt-ltb ca (own a (node t a)) (omega arith) in (rw g, rw g)
+  unfolding Right
+  backA x e h = let g = meet-is-5-a t a b ca cb o (omega arith) in (rw g, rw g)
 
   backB : (x : ℕ) → x ≡ own b (node t b) → cb < x → Right (Refused 5) t
-  unfolding clockBack Right
-  backB x e h =
-      let g = lt-ltb cb (own b (node t b)) (omega arith) in
-      let f = or-true (ltb ca (own a (node t a))) in
-      (rw (g, f), rw (g, f))
+  unfolding Right
+  backB x e h = let g = meet-is-5-b t a b ca cb o (omega arith) in (rw g, rw g)
 
   module _ (n : ℕ) (en : n ≡ count t) (m : ℕ) (em : m ≡ n) (sa ka sb kb : List ℕ) (ea : begun (take n sa) (take n ka) (node t a .log) ≡ opened a ca (node t a))
       (eb : begun (take n sb) (take n kb) (node t b .log) ≡ opened b cb (node t b)) where
@@ -61,16 +53,23 @@ module _ (t : List ℕ) (s : Sound t) (a b : ℕ) (ha : a < count t) (hb : b < c
     ready : Meets t a b (take m sa) (take m ka) (take m sb) (take m kb)
     ready = record { isSound = s; hereA = ha; hereB = hb; apart = apart; longA = long a ca ha sa ka ea; longB = long b cb hb sb kb eb }
 
+    -- the exchange from these starting values is what the tests from 6 on ask
+    met :
+        (r : Reply) (u : List ℕ) → Exchanged t o a b (take m sa) (take m ka) (take m sb) (take m kb) r u →
+        (r ≡ replyFrom 6 t (Session a b ca cb o)) × (u ≡ afterFrom 6 t (Session a b ca cb o))
+    unfolding refusals from reported acted
+    met r u e =
+        let i = lent a ca sa ka ea in
+        let j = lent b cb sb kb eb in
+        rw (← i, ← j) (e .replies, e .leaves)
+
     done :
         (x y : ℕ) → x ≡ own a (node t a) → x ≤ ca → y ≡ own b (node t b) → y ≤ cb → (r : Reply) (u : List ℕ) →
         Exchanged t o a b (take m sa) (take m ka) (take m sb) (take m kb) r u → Right r u
-    unfolding clockBack noRoom reported acted Right
+    unfolding Right
     done x y ex lx ey ly r u e =
-        let f = le-ltb ca (own a (node t a)) (omega arith) in
-        let g = le-ltb cb (own b (node t b)) (omega arith) in
-        let i = lent a ca sa ka ea in
-        let j = lent b cb sb kb eb in
-        rw (f, g, ← i, ← j) (e .replies, e .leaves)
+        let f = meet-from-6 t a b ca cb o (omega arith) (omega arith) in
+        rw f (met r u e)
 
 own-of-requires : tie.Need-own-of-requires
 own-of-requires c κs = search needs

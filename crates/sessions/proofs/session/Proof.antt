@@ -1,19 +1,14 @@
 -- `sessions::session` meets its contract: the refusals in their order, or the meeting.
-use mathlib.Core.Path.{_≡_, ap, sym, _∙_}
-use mathlib.Core.Bool.{or-true}
+use mathlib.Core.Path.{_≡_}
 use mathlib.Core.List.{List}
 use Prim.Native.Nat.{ℕ, _<_, _≤_}
 use native.Mathlib.Omega.{arith}
-use borrow.Author.Tests.{lt-ltb, le-ltb, le-leb, lt-leb, eq-eqb, ne-eqb}
-use lib.Dec.{leb}
 use Rattle.meaning.specs.declared.Reply.{Reply}
 use Rattle.meaning.specs.declared.Reply.the-variants.{Refused}
 use Rattle.meaning.specs.declared.Action.the-variants.{Session}
-use Rattle.meaning.specs.Rows.{given, unless}
-use Rattle.meaning.specs.Table.{count}
-use Rattle.meaning.specs.Steps.{clockBack, noRoom, acted, reported, replied, refusal, reply, after}
-use Rattle.meaning.proofs.TableLaws.{Sound}
-use Rattle.meaning.proofs.StepLaws.{session-refusal, refuse}
+use Rattle.meaning.specs.Table.{count, Sound}
+use Rattle.meaning.specs.Steps.{reply, after, replyFrom, afterFrom}
+use Rattle.meaning.proofs.StepLaws.{session-is-2, session-is-3-a, session-is-3-b, session-is-4, session-from-5, refuse}
 use borrow.Author.Needs.{needs}
 use Rattle.sessions.proofs.session.Statement.{statement}
 use Rattle.sessions.proofs.session.Tie as tie
@@ -28,33 +23,27 @@ module _ (t : List ℕ) (s : Sound t) (a b ca cb o : ℕ) where
 
   outcome : 3 < o → Refuses 2
   unfolding Refuses
-  outcome h = refuse t (Session a b ca cb o) 1 (session-refusal t s a b ca cb o ∙ rw (lt-ltb 3 o h))
+  outcome h = refuse t (Session a b ca cb o) 1 (session-is-2 t s a b ca cb o h)
 
   module _ (ho : o ≤ 3) (n : ℕ) (en : n ≡ count t) where
     absentA : n ≤ a → Refuses 3
     unfolding Refuses
-    absentA h = refuse t (Session a b ca cb o) 2 (session-refusal t s a b ca cb o ∙ rw (le-ltb 3 o ho, le-leb (count t) a (omega arith)))
+    absentA h = refuse t (Session a b ca cb o) 2 (session-is-3-a t s a b ca cb o ho (omega arith))
 
     absentB : n ≤ b → Refuses 3
     unfolding Refuses
-    absentB h = refuse t (Session a b ca cb o) 2 (session-refusal t s a b ca cb o ∙ rw (le-ltb 3 o ho, le-leb (count t) b (omega arith), or-true (leb (count t) a)))
+    absentB h = refuse t (Session a b ca cb o) 2 (session-is-3-b t s a b ca cb o ho (omega arith))
 
     module _ (ha : a < n) (hb : b < n) where
       twice : a ≡ b → Refuses 4
       unfolding Refuses
-      twice e = refuse t (Session a b ca cb o) 3 (session-refusal t s a b ca cb o ∙ rw (le-ltb 3 o ho, lt-leb (count t) a (omega arith), lt-leb (count t) b (omega arith), eq-eqb a b e))
-
-      later : (a ≡ b → ⊥) → refusal t (Session a b ca cb o) ≡ given (clockBack t (Session a b ca cb o)) 5 (given (noRoom t (Session a b ca cb o)) 6 0)
-      later e = session-refusal t s a b ca cb o ∙ rw (le-ltb 3 o ho, lt-leb (count t) a (omega arith), lt-leb (count t) b (omega arith), ne-eqb a b e)
+      twice e = refuse t (Session a b ca cb o) 3 (session-is-4 t s a b ca cb o ho (omega arith) (omega arith) e)
 
       done :
-          (a ≡ b → ⊥) → (r : Reply) (u : List ℕ) →
-          (r ≡ replied (given (clockBack t (Session a b ca cb o)) 5 (given (noRoom t (Session a b ca cb o)) 6 0)) (reported t (Session a b ca cb o))) ×
-          (u ≡ unless (given (clockBack t (Session a b ca cb o)) 5 (given (noRoom t (Session a b ca cb o)) 6 0)) (acted t (Session a b ca cb o)) t) →
+          (a ≡ b → ⊥) → (r : Reply) (u : List ℕ) → (r ≡ replyFrom 5 t (Session a b ca cb o)) × (u ≡ afterFrom 5 t (Session a b ca cb o)) →
           (r ≡ reply t (Session a b ca cb o)) × (u ≡ after t (Session a b ca cb o))
       unfolding reply after
-      done e r u g =
-          (g .0 ∙ ap (λ (k : ℕ). replied k (reported t (Session a b ca cb o))) (sym (later e)), g .1 ∙ ap (λ (k : ℕ). unless k (acted t (Session a b ca cb o)) t) (sym (later e)))
+      done e r u g = let f = session-from-5 t s a b ca cb o ho (omega arith) (omega arith) e in rw f g
 
 returns : tie.Need-returns
 unfolding Refuses

@@ -6,9 +6,8 @@ use native.Mathlib.Omega.{arith}
 use lib.ListN.{take, set}
 use lib.Seq.{take-set-lt}
 use Rattle.meaning.specs.Rows.{least}
-use Rattle.meaning.specs.Table.{nodesMost, part, node, count, summaryAt, acksAt}
+use Rattle.meaning.specs.Table.{nodesMost, part, node, count, summaryAt, acksAt, Sound}
 use Rattle.meaning.specs.Node.{opened}
-use Rattle.meaning.proofs.TableLaws.{Sound}
 use Rattle.meaning.proofs.PutLaws.{part-part}
 use Rattle.sides.specs.Begun.{begun}
 use borrow.Author.Needs.{needs}

@@ -7,11 +7,10 @@ use native.Mathlib.Omega.{arith}
 use borrow.Author.Tests.{not-true, not-false, le-ltb}
 use lib.ListN.{length, take, drop}
 use lib.Dec.{ltb}
-use Rattle.meaning.specs.Rows.{newer, records}
-use Rattle.meaning.specs.Table.{logMost, held, part, logAt, recordSound, count}
+use Rattle.meaning.specs.Rows.{newer, records, all}
+use Rattle.meaning.specs.Table.{logMost, held, part, logAt, recordSound, count, Sound}
 use Rattle.meaning.proofs.PlaceLaws.{length-part}
-use Rattle.meaning.proofs.RowLaws.{all, length-newer, length-records}
-use Rattle.meaning.proofs.TableLaws.{Sound}
+use Rattle.meaning.proofs.RowLaws.{length-newer, length-records}
 use Rattle.sides.specs.Begun.{heldLog}
 use Rattle.sides.proofs.Meeting.{right-log}
 use borrow.Author.Needs.{needs}

@@ -1,12 +1,14 @@
 -- `table::fresh` meets its contract: 1 for a wrong count or length, or zeros and the count.
-use mathlib.Core.Path.{_≡_, ap, _∙_}
-use mathlib.Core.Bool.{_&&_, and-false}
+use mathlib.Core.Path.{_≡_, sym, ap, _∙_}
+use mathlib.Core.Bool.{Bool, _&&_, and-false}
 use mathlib.Core.List.{List, [], _∷_}
 use Prim.Native.Nat.{ℕ, _<_, _≤_}
-use borrow.Author.Tests.{le-leb, lt-leb, eq-eqb, ne-eqb}
+use borrow.Author.Tests.{le-leb, lt-leb}
 use lib.ListN.{length, replicate}
 use lib.Dec.{leb}
 use Rattle.meaning.specs.Table.{tableWords, nodesMost, fresh, freshRefusal, madeFresh, place}
+use Rattle.meaning.proofs.RowLaws.{and-both}
+use Rattle.meaning.proofs.TableLaws.{fresh-count-wrong, fresh-length-wrong, fresh-right}
 use borrow.Author.Needs.{needs}
 use Rattle.table.proofs.fresh.Statement.{statement}
 use Rattle.table.proofs.fresh.Tie as tie
@@ -20,30 +22,25 @@ module _ (t : List ℕ) (n : ℕ) where
   Right r u = (r ≡ freshRefusal t n) × (u ≡ madeFresh t n)
 
   few : n < 2 → Right 1 t
-  unfolding Right freshRefusal madeFresh
-  few h = let e = lt-leb 2 n h in (rw e, rw e)
+  unfolding Right madeFresh
+  few h = let e = fresh-count-wrong t n (ap (λ (x : Bool). x && leb n nodesMost) (lt-leb 2 n h)) in (sym e, rw e)
 
   many : nodesMost < n → Right 1 t
-  unfolding Right freshRefusal madeFresh
+  unfolding Right madeFresh
   many h =
-      let e = lt-leb n nodesMost h in
-      let f = and-false (leb 2 n) in
-      (rw (e, f), rw (e, f))
+      let e = fresh-count-wrong t n (ap (λ (x : Bool). leb 2 n && x) (lt-leb n nodesMost h) ∙ and-false (leb 2 n)) in
+      (sym e, rw e)
 
   wrong : (length t ≡ tableWords → ⊥) → Right 1 t
-  unfolding Right freshRefusal madeFresh
-  wrong h =
-      let e = ne-eqb (length t) tableWords h in
-      let f = and-false (leb 2 n && leb n nodesMost) in
-      (rw (e, f), rw (e, f))
+  unfolding Right madeFresh
+  wrong h = let e = fresh-length-wrong t n h in (sym e, rw e)
 
   made : 2 ≤ n → n ≤ nodesMost → length t ≡ tableWords → (u v : List ℕ) → u ≡ replicate (length t) 0 → v ≡ place 0 (n ∷ []) u → Right 0 v
-  unfolding Right freshRefusal madeFresh fresh place
+  unfolding Right madeFresh fresh place
   made lo hi l u v eu ev =
-      let a = le-leb 2 n lo in
-      let b = le-leb n nodesMost hi in
-      let c = eq-eqb (length t) tableWords l in
-      (rw (a, b, c), rw (a, b, c) (ev ∙ ap (place 0 (n ∷ [])) (eu ∙ ap (λ (m : ℕ). replicate m 0) l)))
+      let c = and-both (leb 2 n) (leb n nodesMost) (le-leb 2 n lo) (le-leb n nodesMost hi) in
+      let e = fresh-right t n c l in
+      (sym e, rw e (ev ∙ ap (place 0 (n ∷ [])) (eu ∙ ap (λ (m : ℕ). replicate m 0) l)))
 
 returns : tie.Need-returns
 unfolding Right

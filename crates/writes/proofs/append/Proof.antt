@@ -5,9 +5,8 @@ use native.Mathlib.Omega.{arith}
 use mathlib.Core.List.{List, [], _∷_}
 use Rattle.meaning.specs.declared.Record.{Record}
 use Rattle.meaning.specs.Rows.{words}
-use Rattle.meaning.specs.Table.{count, held, node, place, putNode, summaryAt, heldAt, logAt, logMost}
+use Rattle.meaning.specs.Table.{count, held, node, place, putNode, summaryAt, heldAt, logAt, logMost, Sound}
 use Rattle.meaning.specs.Node.{wrote}
-use Rattle.meaning.proofs.TableLaws.{Sound}
 use Rattle.meaning.proofs.PutLaws.{write-put}
 use borrow.Author.Needs.{needs}
 use Rattle.writes.proofs.append.Statement.{statement}

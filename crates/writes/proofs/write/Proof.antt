@@ -5,16 +5,15 @@ use Prim.Native.Nat.{ℕ, _+_, _*_, _≤_, _<_}
 use native.Mathlib.Omega.{arith}
 use mathlib.Core.List.{List, [], _∷_}
 use lib.ListN.{length}
-use borrow.Author.Tests.{le-leb, lt-leb}
 use Rattle.meaning.specs.declared.Reply.{Reply}
 use Rattle.meaning.specs.declared.Reply.the-variants.{Written, Refused}
 use Rattle.meaning.specs.declared.Action.{Action}
 use Rattle.meaning.specs.declared.Action.the-variants.{Write}
-use Rattle.meaning.specs.Table.{count, held, node, putNode, logMost}
+use Rattle.meaning.specs.Table.{count, held, node, putNode, logMost, Sound}
 use Rattle.meaning.specs.Node.{own, wrote}
 use Rattle.meaning.specs.Steps.{refusal, reply, after, acted, reported}
-use Rattle.meaning.proofs.TableLaws.{Sound, held-log}
-use Rattle.meaning.proofs.StepLaws.{write-refusal, refuse, accept}
+use Rattle.meaning.proofs.TableLaws.{held-log}
+use Rattle.meaning.proofs.StepLaws.{write-is-3, write-is-5, write-is-6, write-is-0, refuse, accept}
 use borrow.Author.Needs.{needs}
 use Rattle.writes.proofs.write.Statement.{statement}
 use Rattle.writes.proofs.write.Tie as tie
@@ -27,25 +26,21 @@ use Rattle.writes.proofs.append.Reads as append-reads
 
 module _ (t : List ℕ) (s : Sound t) (p c b v : ℕ) where
   absent : (n : ℕ) → n ≡ count t → n ≤ p → (Refused 3 ≡ reply t (Write p c b v)) × (t ≡ after t (Write p c b v))
-  absent n e h = refuse t (Write p c b v) 2 (write-refusal t s p c b v ∙ rw (le-leb (count t) p (omega arith)))
+  absent n e h = refuse t (Write p c b v) 2 (write-is-3 t s p c b v (omega arith))
 
   back : (n o : ℕ) → n ≡ count t → p < n → o ≡ own p (node t p) → c ≤ o → (Refused 5 ≡ reply t (Write p c b v)) × (t ≡ after t (Write p c b v))
-  back n o e h f g = refuse t (Write p c b v) 4 (write-refusal t s p c b v ∙ rw (lt-leb (count t) p (omega arith), le-leb c (own p (node t p)) (omega arith)))
+  back n o e h f g = refuse t (Write p c b v) 4 (write-is-5 t s p c b v (omega arith) (omega arith))
 
   full : (n o k : ℕ) → n ≡ count t → p < n → o ≡ own p (node t p) → o < c → k ≡ held t p → logMost ≤ k → (Refused 6 ≡ reply t (Write p c b v)) × (t ≡ after t (Write p c b v))
   full n o k e h f g ek w =
       let l = held-log t p in
-      refuse t (Write p c b v) 5
-      (write-refusal t s p c b v ∙ rw (lt-leb (count t) p (omega arith), lt-leb c (own p (node t p)) (omega arith), le-leb logMost (length (node t p .log)) (omega arith)))
+      refuse t (Write p c b v) 5 (write-is-6 t s p c b v (omega arith) (omega arith) (omega arith))
 
   done : (n o k : ℕ) (u : List ℕ) → n ≡ count t → p < n → o ≡ own p (node t p) → o < c → k ≡ held t p → k < logMost → u ≡ putNode p (wrote p c b v (node t p)) t → (Written ≡ reply t (Write p c b v)) × (u ≡ after t (Write p c b v))
   unfolding reported acted
   done n o k u e h f g ek w eu =
       let l = held-log t p in
-      let a =
-      accept t (Write p c b v)
-      (write-refusal t s p c b v ∙ rw (lt-leb (count t) p (omega arith), lt-leb c (own p (node t p)) (omega arith), lt-leb logMost (length (node t p .log)) (omega arith)))
-      in
+      let a = accept t (Write p c b v) (write-is-0 t s p c b v (omega arith) (omega arith) (omega arith)) in
       (a .0, eu ∙ a .1)
 
 within : (t : List ℕ) (p n : ℕ) → n ≡ count t → p < n → p < count t
