@@ -5,9 +5,6 @@
  * calls from a shared file: for an archive of another kind of machine, under its emulator. */
 #include "pollencart.h"
 
-/* The number stands in src/library.rs and bench/ too. */
-_Static_assert(POLLENCART_TEXT == 12288, "the room for a replay's text");
-
 /* Declared here so that no C library headers are needed for the other machine. */
 void *mmap(void *, size_t, int, int, int, long);
 int mprotect(void *, size_t, int);

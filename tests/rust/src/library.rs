@@ -1,7 +1,8 @@
 //! The library under test: lists of calls, run through executor.c, in this process or in another
 //! one that an emulator runs. The one place that knows how calls and answers are written down.
 
-use crate::model::{Action, Frame, WORDS};
+use crate::layout::WORDS;
+use crate::model::{Action, Frame};
 use std::fs::OpenOptions;
 use std::io::{Read, Write};
 use std::os::fd::{AsRawFd, IntoRawFd};
@@ -9,8 +10,8 @@ use std::process::{Child, Command, Stdio};
 
 const HALF: usize = 16 << 20;
 
-/// The room for a replay's text that is always enough, as the header says.
-pub const TEXT: u32 = 12288;
+/// The room for a replay's text that is always enough.
+pub const TEXT: u32 = crate::layout::TEXT as u32;
 
 #[cfg(linked)]
 extern "C" {

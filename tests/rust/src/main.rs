@@ -5,6 +5,7 @@
 mod account;
 mod edges;
 mod journals;
+mod layout;
 mod library;
 mod lines;
 mod model;
