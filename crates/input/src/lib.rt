@@ -39,7 +39,9 @@ fn read_to(lent: usize, at: usize, interrupted: bool, got: isize) -> Input
 // One read into the bytes from `at` on: those before it, which came earlier, stay as they are.
 fn read_on(fd: i32, bytes: &mut [u8], at: usize) -> Input
     requires { ⌜ at < length (now bytes) ⌝ }
-    ensures { λ r. ⌜ (length (now (bytes .exit)) ≡ length (now (bytes .entry))) × (take at (now (bytes .exit)) ≡ take at (now (bytes .entry))) × Within (length (now (bytes .entry))) r ⌝ }
+    ensures { λ r. ⌜ length (now (bytes .exit)) ≡ length (now (bytes .entry)) ⌝ }
+    ensures { λ r. ⌜ take at (now (bytes .exit)) ≡ take at (now (bytes .entry)) ⌝ }
+    ensures { λ r. ⌜ Within (length (now (bytes .entry))) r ⌝ }
 {
     let lent = bytes.len();
     let got = libc::read(fd, &mut bytes[at..lent]);
@@ -50,7 +52,8 @@ fn read_on(fd: i32, bytes: &mut [u8], at: usize) -> Input
 // Reads to the end, the last lent byte or a failure. A proved loop has to end, and nothing says that an input does or that signals stop, so it
 // counts its turns down from a number that no run uses up; if one did, the answer would be `More`.
 pub fn read_all(fd: i32, bytes: &mut [u8]) -> Input
-    ensures { λ r. ⌜ (length (now (bytes .exit)) ≡ length (now (bytes .entry))) × Within (length (now (bytes .entry))) r ⌝ }
+    ensures { λ r. ⌜ length (now (bytes .exit)) ≡ length (now (bytes .entry)) ⌝ }
+    ensures { λ r. ⌜ Within (length (now (bytes .entry))) r ⌝ }
 {
     if bytes.len() == 0 {
         return Input::Full;

@@ -1,5 +1,5 @@
 -- `read_all`: at each turn as many bytes are lent as at first and what has come is within them; the measure is the number of turns left.
-use mathlib.Core.Path.{_≡_, refl, sym, subst, _∙_}
+use mathlib.Core.Path.{_≡_, refl, subst, _∙_}
 use Prim.Native.Nat.{ℕ}
 use native.Mathlib.Omega.{arith}
 use borrow.Author.Needs.{needs}
@@ -48,7 +48,7 @@ loop-again c =
     let at-loop = at-read .before .before .before .before .before .before in
     let r = at-read .read-on .ensures in
     let inv = at-loop .loop .inv in
-    (r .0 ∙ inv .0, subst (λ (n : ℕ). Within n (at-read .read-on .result)) (inv .0) (r .2))
+    (r .0 ∙ inv .0, subst (λ (n : ℕ). Within n (at-read .read-on .result)) (inv .0) (r .1 .1))
 
 same-length-2 : tie.Need-same-length-2 Inv-loop μ-loop
 same-length-2 c = search needs

@@ -1,5 +1,5 @@
 -- `read_on`: the part that was lent to the read goes back behind the bytes before it, and the answer leaves what has come within all of them.
-use mathlib.Core.Path.{_≡_, sym, subst}
+use mathlib.Core.Path.{sym, subst}
 use Prim.Native.Nat.{_-_}
 use native.Mathlib.Omega.{arith}
 use borrow.Author.Needs.{needs}
@@ -35,11 +35,10 @@ returns : tie.Need-returns
 returns c =
     let at-read = c .before .before .before .before in
     let s = at-read .before .before .before in
-    let xs = s .args .bytes .now in (
-      search needs,
-      take-put (s .args .at) (length xs - s .args .at) xs (at-read .read .last .1 .0) (omega arith),
-      subst (Within (length xs)) (sym (c .read-to .ensures)) (to-within (length xs) (s .args .at) _ _ (s .pre)),
-    )
+    let xs = s .args .bytes .now in
+    let kept = take-put (s .args .at) (length xs - s .args .at) xs (at-read .read .last .1 .0) (omega arith) in
+    let within = subst (Within (length xs)) (sym (c .read-to .ensures)) (to-within (length xs) (s .args .at) _ _ (s .pre)) in
+    (search needs, (kept, within))
 
 pub read-on-spec : {M : Type 1} → statement M
 read-on-spec =

@@ -1,7 +1,7 @@
 -- `read_to`: each answer's case, by the tests of its bits.
 use native.Mathlib.Omega.{arith}
-use mathlib.Core.Path.{_≡_, sym}
-use mathlib.Core.Bool.{Bool, true, false}
+use mathlib.Core.Path.{_≡_}
+use mathlib.Core.Bool.{true, false}
 use borrow.Author.Needs.{needs}
 use Rattle.input.proofs.ReadingLaws.{counts, to-again, to-failed, to-end, to-more, to-full}
 use Rattle.input.proofs.read_to.Statement.{statement}
