@@ -13,7 +13,24 @@ use Rattle.meaning.specs.declared.Action.the-variants.{Write, Session, P
 use Rattle.meaning.specs.declared.Reply.the-variants.{Refused}
 use Rattle.meaning.specs.Refusals.{first}
 use Rattle.meaning.specs.Rows.{ascii, every, keep, least, raise, covers, newer, above, recordAt, records, words}
-use Rattle.meaning.specs.Table.{summaryAt, acksAt, heldAt, logAt, part, place, count, held, node, lay, pieces, putNode, fresh, recordSound, logSound, sound}
+use Rattle.meaning.specs.Table.{
+  summaryAt,
+  acksAt,
+  heldAt,
+  logAt,
+  part,
+  place,
+  count,
+  held,
+  node,
+  lay,
+  pieces,
+  putNode,
+  fresh,
+  recordSound,
+  logSound,
+  sound,
+}
 use Rattle.meaning.specs.Node.{own, wrote, opened, finished, purged}
 use Rattle.meaning.specs.Steps.{refusals, refusal, limit, acted, reported, reply, after, replyValues}
 use Rattle.meaning.specs.Frames.{

@@ -67,7 +67,7 @@ stepped x s =
       account = noteIf (refusal (x .table) (s .action)) (s .action) (x .account);
     }
 
--- What befalls a run: a step, so far
+-- What befalls a run, one event after the other: a step is one
 pub data Event : Type 0 where
   AStep : Step → Event
 

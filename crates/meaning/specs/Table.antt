@@ -66,7 +66,7 @@ node t p =
       log = records (held t p) (part (logAt p) (4 * logMost) t);
     }
 
--- Words that go to a place of the table, and such pieces laid over it, the first of them last
+-- Words that go to a place of the table; and such pieces laid over it, the last of the list first
 pub record Piece : Type 0 where
   pub at : ℕ
   pub new : List ℕ
@@ -82,7 +82,7 @@ lay (x ∷ xs) t = place (x .at) (x .new) (lay xs t)
 abbrev pub logWords : ℕ → Node → List ℕ → List ℕ
 logWords p x t = words (x .log) ++ replicate (4 * (held t p - length (x .log))) 0
 
--- the table with node p changed: its n entries of each row, its held number, its log
+-- a node's words and where they go: its n entries of each row, its held number, its log
 unfoldable pub pieces : ℕ → Node → List ℕ → List Piece
 pieces p x t =
     piece (summaryAt p) (x .summary) ∷
@@ -91,6 +91,7 @@ pieces p x t =
     piece (logAt p) (logWords p x t) ∷
     []
 
+-- the table with node p changed
 unfoldable pub putNode : ℕ → Node → List ℕ → List ℕ
 putNode p x t = lay (pieces p x t) t
 
