@@ -1,6 +1,5 @@
 // What C reads of a table: one scan for soundness a call, and 0 where there is none. The definitions are those of specs/Entries.antt.
 ghost use mathlib.Core.Path.{_≡_};
-ghost use mathlib.Core.Bool.{true};
 ghost use Prim.Native.Nat.{_+_, _≤_};
 ghost use lib.ListN.{getD};
 ghost use Rattle.meaning.specs.Table.{tableWords, nodesMost, part, count, Sound};

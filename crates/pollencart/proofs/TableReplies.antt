@@ -28,7 +28,9 @@ one-fresh κs a x y s s' p q = both (ap (λ (k : ℕ). k ∷ []) (p .0)) (ap (λ
 pub one-write : OneReply 1 write-kinds.ps write-kinds.r write.Post (λ κs x s. (x ∷ []) ++ now (s .0))
 one-write κs a x y s s' p q = both (p .0) (q .0) (p .1) (q .1)
 
-pub one-session : OneReply 3 session-kinds.ps session-kinds.r session.Post (λ κs x s. (x ∷ now (s .1 .1 .1 .1 .1 .1 .0) ∷ now (s .1 .1 .1 .1 .1 .1 .1 .0) ∷ []) ++ now (s .0))
+pub one-session :
+    OneReply 3 session-kinds.ps session-kinds.r session.Post
+    (λ κs x s. (x ∷ now (s .1 .1 .1 .1 .1 .1 .0) ∷ now (s .1 .1 .1 .1 .1 .1 .1 .0) ∷ []) ++ now (s .0))
 one-session κs a x y s s' p q = both (p .0) (q .0) (p .1) (q .1)
 
 pub one-purge : OneReply 2 purge-kinds.ps purge-kinds.r purge.Post (λ κs x s. (x ∷ now (s .1 .1 .0) ∷ []) ++ now (s .0))

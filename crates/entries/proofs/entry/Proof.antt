@@ -18,13 +18,18 @@ mul-result : tie.Need-mul-result
 mul-result c = search needs
 
 shared-slice-read-result : tie.Need-shared-slice-read-result
-shared-slice-read-result c = omega (arith, c .before .before .before .before .pre .0 .high, c .before .before .before .before .pre .0 .long, c .before .before .before .before .pre .1, c .before .if1 .taken, c .before .before .count-of .ensures)
+shared-slice-read-result c =
+    let at-count = c .before .before in
+    let start = at-count .before .before in
+    omega (arith, start .pre .0 .high, start .pre .0 .long, start .pre .1, c .before .if1 .taken, at-count .count-of .ensures)
 
 returns : tie.Need-returns
 returns c = entry-in _ _ _ _ (omega (arith, c .before .if1 .taken, c .before .before .count-of .ensures))
 
 returns-2 : tie.Need-returns-2
-returns-2 c = entry-out _ _ _ _ (omega (arith, c .before .before .before .pre .0 .high, c .before .before .before .pre .0 .long, c .before .before .before .pre .1)) (omega (arith, c .if1 .left, c .before .count-of .ensures))
+returns-2 c =
+    let start = c .before .before .before in
+    entry-out _ _ _ _ (omega (arith, start .pre .0 .high, start .pre .0 .long, start .pre .1)) (omega (arith, c .if1 .left, c .before .count-of .ensures))
 
 pub entry-spec : {M : Type 1} → statement M
 entry-spec =

@@ -17,7 +17,9 @@ held-of-requires c κs =
     (is-sound _ _ h .long, omega (arith, below _ _ h))
 
 returns-2 : tie.Need-returns-2
-returns-2 c = held-is _ _ _ (there _ _ (c .before .before .is-present .result) (c .before .before .is-present .ensures) (c .before .if1 .left)) (c .held-of .ensures)
+returns-2 c =
+    let at-present = c .before .before in
+    held-is _ _ _ (there _ _ (at-present .is-present .result) (at-present .is-present .ensures) (c .before .if1 .left)) (c .held-of .ensures)
 
 pub held-number-spec : {M : Type 1} → statement M
 held-number-spec = tie.close (tie.spec is-present-requires returns held-of-requires returns-2)

@@ -20,7 +20,9 @@ cast-result : tie.Need-cast-result
 cast-result c = search needs
 
 returns-2 : tie.Need-returns-2
-returns-2 c = sound-present _ _ _ (sym (c .before .before .is-sound .ensures) ∙ not-false (c .before .before .is-sound .result) (c .before .if1 .left)) (c .count-of .ensures)
+returns-2 c =
+    let at-sound = c .before .before in
+    sound-present _ _ _ (sym (at-sound .is-sound .ensures) ∙ not-false (at-sound .is-sound .result) (c .before .if1 .left)) (c .count-of .ensures)
 
 pub is-present-spec : {M : Type 1} → statement M
 is-present-spec =

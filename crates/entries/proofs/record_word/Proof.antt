@@ -18,13 +18,23 @@ held-of-requires c κs =
     (is-sound _ _ h .long, omega (arith, below _ _ h))
 
 returns-2 : tie.Need-returns-2
-returns-2 c = record-beyond _ _ _ _ _ (there _ _ (c .before .before .before .is-present .result) (c .before .before .before .is-present .ensures) (c .before .before .if1 .left)) (c .before .held-of .ensures) (omega (arith, c .if2 .taken))
+returns-2 c =
+    let at-if1 = c .before .before in
+    let at-present = at-if1 .before in
+    let h = there _ _ (at-present .is-present .result) (at-present .is-present .ensures) (at-if1 .if1 .left) in
+    record-beyond _ _ _ _ _ h (c .before .held-of .ensures) (omega (arith, c .if2 .taken))
 
 returns-3 : tie.Need-returns-3
-returns-3 c = word-beyond _ _ _ _ (there _ _ (c .before .before .before .before .is-present .result) (c .before .before .before .before .is-present .ensures) (c .before .before .before .if1 .left)) (omega (arith, c .if3 .taken))
+returns-3 c =
+    let at-if1 = c .before .before .before in
+    let at-present = at-if1 .before in
+    word-beyond _ _ _ _ (there _ _ (at-present .is-present .result) (at-present .is-present .ensures) (at-if1 .if1 .left)) (omega (arith, c .if3 .taken))
 
 log-at-requires : tie.Need-log-at-requires
-log-at-requires c κs = below _ _ (there _ _ (c .before .before .before .before .is-present .result) (c .before .before .before .before .is-present .ensures) (c .before .before .before .if1 .left))
+log-at-requires c κs =
+    let at-if1 = c .before .before .before in
+    let at-present = at-if1 .before in
+    below _ _ (there _ _ (at-present .is-present .result) (at-present .is-present .ensures) (at-if1 .if1 .left))
 
 mul-result : tie.Need-mul-result
 mul-result c = search needs
@@ -40,16 +50,28 @@ mul-result-2 c = search needs
 
 shared-slice-read-result : tie.Need-shared-slice-read-result
 shared-slice-read-result c =
-    let h = there _ _ (c .before .before .before .before .before .before .is-present .result) (c .before .before .before .before .before .before .is-present .ensures) (c .before .before .before .before .before .if1 .left) in
+    let at-if3 = c .before .before in
+    let at-if2 = at-if3 .before in
+    let at-held = at-if2 .before in
+    let at-if1 = at-held .before in
+    let at-present = at-if1 .before in
+    let h = there _ _ (at-present .is-present .result) (at-present .is-present .ensures) (at-if1 .if1 .left) in
     let t = is-sound _ _ h in
-    omega (arith, t .long, t .room _ (is-node _ _ h), below _ _ h, c .before .before .before .before .held-of .ensures, c .before .before .before .if2 .left, c .before .before .if3 .left, c .before .log-at .ensures)
+    omega
+    (arith, t .long, t .room _ (is-node _ _ h), below _ _ h, at-held .held-of .ensures, at-if2 .if2 .left, at-if3 .if3 .left, c .before .log-at .ensures)
 
 returns-4 : tie.Need-returns-4
 returns-4 c =
-    let h = there _ _ (c .before .before .before .before .before .before .is-present .result) (c .before .before .before .before .before .before .is-present .ensures) (c .before .before .before .before .before .if1 .left) in
-    let held : c .before .before .before .before .before .before .before .before .args .index < c .before .before .before .before .held-of .result = omega (arith, c .before .before .before .if2 .left) in
-    let word : c .before .before .before .before .before .before .before .before .args .word ≤ 3 = omega (arith, c .before .before .if3 .left) in
-    record-is _ _ _ _ _ _ h (c .before .before .before .before .held-of .ensures) held word (c .before .log-at .ensures)
+    let at-if3 = c .before .before in
+    let at-if2 = at-if3 .before in
+    let at-held = at-if2 .before in
+    let at-if1 = at-held .before in
+    let at-present = at-if1 .before in
+    let start = at-present .before .before in
+    let h = there _ _ (at-present .is-present .result) (at-present .is-present .ensures) (at-if1 .if1 .left) in
+    let held : start .args .index < at-held .held-of .result = omega (arith, at-if2 .if2 .left) in
+    let word : start .args .word ≤ 3 = omega (arith, at-if3 .if3 .left) in
+    record-is _ _ _ _ _ _ h (at-held .held-of .ensures) held word (c .before .log-at .ensures)
 
 pub record-word-spec : {M : Type 1} → statement M
 record-word-spec =

@@ -20,7 +20,11 @@ entry-requires c κs =
     (is-sound _ _ h, omega (arith, below _ _ h, c .summary-at .ensures))
 
 returns-2 : tie.Need-returns-2
-returns-2 c = summary-is _ _ _ _ _ (there _ _ (c .before .before .before .is-present .result) (c .before .before .before .is-present .ensures) (c .before .before .if1 .left)) (c .before .summary-at .ensures) (c .entry .ensures)
+returns-2 c =
+    let at-if1 = c .before .before in
+    let at-present = at-if1 .before in
+    let h = there _ _ (at-present .is-present .result) (at-present .is-present .ensures) (at-if1 .if1 .left) in
+    summary-is _ _ _ _ _ h (c .before .summary-at .ensures) (c .entry .ensures)
 
 pub summary-of-spec : {M : Type 1} → statement M
 summary-of-spec =

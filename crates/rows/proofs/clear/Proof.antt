@@ -1,7 +1,7 @@
 -- `rows::clear` meets its contract: the invariant says that the entries passed are 0 and the others as they were.
 use mathlib.Core.Path.{_≡_, refl, ap, _∙_}
 use mathlib.Core.List.{List, _++_, append-nil}
-use Prim.Native.Nat.{ℕ, _+_, _-_, _≤_}
+use Prim.Native.Nat.{ℕ, _-_, _≤_}
 use native.Mathlib.Omega.{arith}
 use borrow.Author.Fill.{fill-none, fill-more}
 use lib.ListN.{length, drop, set, replicate, length-set}

@@ -3,7 +3,6 @@ use mathlib.Core.Path.{_≡_, _∙_, refl}
 use Prim.Native.Nat.{ℕ, _≤_, _<_}
 use native.Mathlib.Omega.{arith}
 use mathlib.Core.List.{List}
-use lib.ListN.{length}
 use Rattle.meaning.specs.declared.Reply.the-variants.{Written, Refused}
 use Rattle.meaning.specs.declared.Action.the-variants.{Write}
 use Rattle.meaning.specs.Table.{count, held, node, putNode, logMost, Sound}
