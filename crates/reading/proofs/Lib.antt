@@ -1,4 +1,5 @@
+pub mod DigitLaws
+pub mod FieldLaws
+pub mod HeadLaws
 pub mod LineLaws
 pub mod OneReply
-pub mod ReadLaws
-pub mod ShortLaws

@@ -2,18 +2,33 @@
 use mathlib.Core.Path.{_≡_, refl, sym, _∙_, ap}
 use mathlib.Core.Bool.{Bool, true, false}
 use mathlib.Core.List.{List, [], _∷_}
-use Prim.Native.Nat.{ℕ, zero, suc, _+_, _≤_, _<_}
+use Prim.Native.Nat.{ℕ, zero, suc, _+_, _≤_}
 use native.Mathlib.Omega.{arith}
 use lib.ListN.{length, getD, List·getD-eq-default}
-use lib.Dec.{ltb, eqb}
-use borrow.Author.Tests.{ltb-true, ltb-false, eqb-true, eqb-false}
+use lib.Dec.{eqb}
+use borrow.Author.Tests.{eqb-true, eqb-false}
 use Rattle.meaning.specs.declared.Action.{Action}
 use Rattle.meaning.specs.declared.Line.{Line}
 use Rattle.meaning.specs.declared.Line.the-variants.{Begin, Act, Refused}
-use Rattle.meaning.specs.Frames.{bytesOf, allDigits, widths, digitsOf, actionOf, fieldsOf, kindOf, lineKind, lineFields, lineRefusal, lineValues, readLine}
-use Rattle.meaning.proofs.FrameLaws.{refused-stray, refused-empty, refused-length, read-refused, read-begin, read-act}
+use Rattle.meaning.specs.Frames.{
+  bytesOf,
+  journalKinds,
+  known,
+  widthsIn,
+  digitsIn,
+  digitsOf,
+  actionOf,
+  fieldsOf,
+  kindOf,
+  lineKind,
+  lineFields,
+  lineRefusal,
+  lineValues,
+  readLine,
+}
+use Rattle.meaning.proofs.FrameLaws.{kind-cases, Good, good, read-refused, read-begin, read-act}
 use Rattle.reading.specs.Fields.{fieldAt, Within, Whole, writeAt, sessionAt, purgeAt}
-use Rattle.reading.proofs.ReadLaws.{kind-field, fieldsFrom, line-fields, action-write, action-session, action-purge}
+use Rattle.reading.proofs.FieldLaws.{rest-purge, fieldsFrom, line-fields, action-write, action-session, action-purge}
 
 -- past the fields
 pub past : (xs : List ℕ) (i : ℕ) → length xs ≤ i → 0 ≡ getD xs i 0
@@ -39,55 +54,26 @@ module _ (l : List ℕ) where
   pub refused-field : (n i : ℕ) → n ≡ lineRefusal l → (n ≡ 0 → ⊥) → 0 ≡ getD (lineValues (readLine 0 l)) (2 + i) 0
   refused-field n i e h = past (n ∷ []) (2 + i) (omega arith) ∙ ap (λ (x : Line). getD (lineValues x) (2 + i) 0) (line-refused 0 n e h)
 
-  -- a line that is not refused has the length of its kind
+  -- a line that is not refused, by its kind
   module _ (clear : lineRefusal l ≡ 0) where
-    digits : allDigits l ≡ true
-    digits = go (allDigits l) refl
-      where
-        go : (b : Bool) → allDigits l ≡ b → allDigits l ≡ true
-        go true d = d
-        go false d = absurd (omega (arith, refused-stray l d))
+    right : Good l
+    right = good l clear
 
-    some : 2 ≤ length l
-    some = go (ltb (length l) 2) refl
-      where
-        go : (b : Bool) → ltb (length l) 2 ≡ b → 2 ≤ length l
-        go true e = absurd (omega (arith, refused-empty l digits (ltb-true (length l) 2 e)))
-        go false e = ltb-false (length l) 2 e
-
-    fits : (lineKind (bytesOf l) < 4) × (length l ≡ digitsOf (lineKind (bytesOf l)))
-    fits = go (ltb (lineKind (bytesOf l)) 4) (eqb (length l) (digitsOf (lineKind (bytesOf l)))) refl refl
-      where
-        go : (a b : Bool) → ltb (lineKind (bytesOf l)) 4 ≡ a → eqb (length l) (digitsOf (lineKind (bytesOf l))) ≡ b
-            → (lineKind (bytesOf l) < 4) × (length l ≡ digitsOf (lineKind (bytesOf l)))
-        go true true x y = (ltb-true (lineKind (bytesOf l)) 4 x, eqb-true (length l) (digitsOf (lineKind (bytesOf l))) y)
-        go true false x y =
-            absurd (omega (arith, refused-length l digits some (λ p q. eqb-false (length l) (digitsOf (lineKind (bytesOf l))) y q)))
-        go false b x y = absurd (omega (arith, refused-length l digits some (λ p q. omega (arith, ltb-false (lineKind (bytesOf l)) 4 x))))
-
-    pub first-in : Within l 0 1
-    first-in = record { digits = digits; room = some }
-
-    module _ (kind : ℕ) (k : kind ≡ fieldAt l 0 1) where
-      is : lineKind (bytesOf l) ≡ kind
-      is = sym (kind-field l) ∙ sym k
-
+    module _ (kind : ℕ) (is : lineKind (bytesOf l) ≡ kind) where
       pub line-whole : Whole l kind
-      line-whole =
-          let known : kind < 4 = omega (arith, fits .0, is) in
-          record { digits = digits; is = is; long = fits .1 ∙ ap digitsOf is; known = known }
+      line-whole = record { digits = right .digits; is = is; long = right .long ∙ ap digitsOf is; has-kind = rw is at (right .has-kind) }
 
       -- a start
       module _ (start : kind ≡ 0) where
         pub line-begin : (line n : ℕ) → n ≡ fieldAt l 1 1 → Begin n ≡ readLine line l
-        unfolding widths fieldsFrom
+        unfolding widthsIn journalKinds fieldsFrom
         line-begin line n e =
             let zeroth : getD (lineFields (bytesOf l)) 0 0 ≡ fieldAt l 1 1 = ap (λ (f : List ℕ). getD f 0 0) (line-fields l 0 (is ∙ start)) in
             ap Begin (e ∙ sym zeroth) ∙ read-begin line l clear (is ∙ start)
 
         pub second-in : Within l 1 1
-        unfolding digitsOf widths
-        second-in = record { digits = digits; room = let six : length l ≡ 6 = line-whole .long ∙ ap digitsOf start in omega arith }
+        unfolding digitsIn widthsIn journalKinds
+        second-in = record { digits = right .digits; room = let six : length l ≡ 6 = line-whole .long ∙ ap digitsOf start in omega arith }
 
         start-field : (i r : ℕ) → r ≡ getD (fieldsOf (purgeAt l)) i 0 → r ≡ getD (lineValues (readLine 0 l)) (2 + i) 0
         start-field i r e =
@@ -105,13 +91,9 @@ module _ (l : List ℕ) where
             p ∙ ap (λ (z : Action). getD (fieldsOf z) i 0) e ∙ after-two 0 (kindOf y) (fieldsOf y) i
             ∙ ap (λ (z : Line). getD (lineValues z) (2 + i) 0) (line-act 0)
 
-      kind-of : (m : ℕ) (f : List ℕ) → m < 4 → (m ≡ 0 → ⊥) → kindOf (actionOf m f) ≡ m
+      kind-of : (f : List ℕ) (m : ℕ) → known m ≡ true → (m ≡ 0 → ⊥) → kindOf (actionOf m f) ≡ m
       unfolding actionOf
-      kind-of zero f p q = absurd (q refl)
-      kind-of (suc zero) f p q = refl
-      kind-of (suc (suc zero)) f p q = refl
-      kind-of (suc (suc (suc zero))) f p q = refl
-      kind-of (suc (suc (suc (suc m)))) f p q = absurd (omega arith)
+      kind-of f = kind-cases (λ (m : ℕ). (m ≡ 0 → ⊥) → kindOf (actionOf m f) ≡ m) (λ z. absurd (z refl)) (λ z. refl) (λ z. refl) (λ z. refl)
 
       pub line-kind : kind ≡ getD (lineValues (readLine 0 l)) 1 0
       line-kind = go (eqb kind 0) refl
@@ -119,7 +101,7 @@ module _ (l : List ℕ) where
           go : (b : Bool) → eqb kind 0 ≡ b → kind ≡ getD (lineValues (readLine 0 l)) 1 0
           go true e = eqb-true kind 0 e ∙ ap (λ (x : Line). getD (lineValues x) 1 0) (line-begin (eqb-true kind 0 e) 0 (fieldAt l 1 1) refl)
           go false e =
-              sym (kind-of kind (lineFields (bytesOf l)) (line-whole .known) (eqb-false kind 0 e))
+              sym (kind-of (lineFields (bytesOf l)) kind (line-whole .has-kind) (eqb-false kind 0 e))
               ∙ ap (λ (x : Line). getD (lineValues x) 1 0) (line-act (eqb-false kind 0 e) 0)
 
       -- the field of a kind that has only one
@@ -129,7 +111,7 @@ module _ (l : List ℕ) where
           go : (b : Bool) → eqb kind 0 ≡ b → r ≡ getD (lineValues (readLine 0 l)) (2 + i) 0
           go true z = start-field (eqb-true kind 0 z) i r e
           go false z =
-              let three : kind ≡ 3 = omega (arith, line-whole .known, eqb-false kind 0 z) in
+              let three : kind ≡ 3 = rest-purge kind (line-whole .has-kind) (eqb-false kind 0 z) p q in
               step-field (eqb-false kind 0 z) (purgeAt l) i r (action-purge l kind is three) e
 
       pub write-value : (i r : ℕ) → kind ≡ 1 → r ≡ getD (fieldsOf (writeAt l)) i 0 → r ≡ getD (lineValues (readLine 0 l)) (2 + i) 0

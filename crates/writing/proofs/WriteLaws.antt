@@ -11,7 +11,23 @@ use Rattle.meaning.specs.Table.{place}
 use Rattle.meaning.specs.declared.Framed.{Framed}
 use Rattle.meaning.specs.declared.Action.{Action}
 use Rattle.meaning.specs.declared.Action.the-variants.{Write, Session}
-use Rattle.meaning.specs.Frames.{digit, spelled, highFirst, total, check, sealed, journalKinds, widthsIn, widths, packed, frameIn, frameOf, frame, frameReply, frameAfter}
+use Rattle.meaning.specs.Frames.{
+  digit,
+  spelled,
+  highFirst,
+  total,
+  check,
+  sealed,
+  journalKinds,
+  widthsIn,
+  widths,
+  packed,
+  frameIn,
+  frameOf,
+  frame,
+  Wrote,
+}
+use Rattle.writing.specs.Puts.{Put}
 use Rattle.meaning.proofs.PlaceLaws.{length-place, place-append, place-comm, set-place, place-none}
 use Rattle.meaning.proofs.FrameLaws.{total-append, spelled-append, length-spelled, length-highFirst}
 
@@ -102,37 +118,35 @@ put-end t whole at k rest e p = sym (put-none t at rest) ∙ rw e at p
 pub sum-end : (added k rest sum : ℕ) → k ≡ 0 → added < 256 → (added + total (highFirst k rest)) % 256 ≡ sum → added ≡ sum
 sum-end added k rest sum e h p = sym (sum-none added rest h) ∙ rw e at p
 
--- what `put` ensures, and the bytes so far from place 0 with their sum
-abbrev Put : List ℕ → List ℕ → ℕ → ℕ → ℕ → ℕ → ℕ → Type 0
-Put t t′ at w v sum sum′ = (sum′ ≡ (sum + total (highFirst w v)) % 256) × (t′ ≡ place (2 * at) (spelled (highFirst w v)) t)
-
-record Wrote (t₀ t : List ℕ) (sum : ℕ) (bs : List ℕ) : Type 0 where
+-- the bytes so far from place 0, with their sum
+record Sofar (t₀ t : List ℕ) (sum : ℕ) (bs : List ℕ) : Type 0 where
   bytes : t ≡ place 0 (spelled bs) t₀
   sums : sum ≡ total bs
 
-wrote-none : (t : List ℕ) → Wrote t t 0 []
+wrote-none : (t : List ℕ) → Sofar t t 0 []
 unfolding spelled total
 wrote-none t = record { bytes = sym (place-none 0 t); sums = refl }
 
-wrote-more : (t₀ t t′ bs : List ℕ) (at w v sum sum′ : ℕ) → length bs ≡ at → 2 * (at + w) ≤ length t₀ → Put t t′ at w v sum sum′ → Wrote t₀ t sum bs
-    → Wrote t₀ t′ sum′ (bs ++ highFirst w v)
+wrote-more : (t₀ t t′ bs : List ℕ) (at w v sum sum′ : ℕ) → length bs ≡ at → 2 * (at + w) ≤ length t₀ → Put t t′ at w v sum sum′ → Sofar t₀ t sum bs
+    → Sofar t₀ t′ sum′ (bs ++ highFirst w v)
 wrote-more t₀ t t′ bs at w v sum sum′ n h p so =
     let front = length-spelled bs in
     let back : length (spelled (highFirst w v)) ≡ 2 * w = length-spelled (highFirst w v) ∙ ap (λ (m : ℕ). 2 * m) (length-highFirst w v) in
+    let joined = place-append 0 (2 * at) (spelled bs) (spelled (highFirst w v)) t₀ (omega arith) (omega arith) in
     record {
-      bytes =
-          rw (p .1, so .bytes, spelled-append bs (highFirst w v)) (place-append 0 (2 * at) (spelled bs) (spelled (highFirst w v)) t₀ (omega arith) (omega arith));
+      bytes = rw (p .1, so .bytes, spelled-append bs (highFirst w v)) joined;
       sums = rw (p .0, so .sums) (sym (total-append bs (highFirst w v)));
     }
 
-wrote-all : (t₀ t t′ bs : List ℕ) (at sum : ℕ) → length bs ≡ at → 2 * (at + 1) < length t₀ → Wrote t₀ t sum bs
+wrote-all : (t₀ t t′ bs : List ℕ) (at sum : ℕ) → length bs ≡ at → 2 * (at + 1) < length t₀ → Sofar t₀ t sum bs
     → t′ ≡ place (2 * at) (spelled ((256 - sum) % 256 ∷ []) ++ (10 ∷ [])) t → t′ ≡ place 0 (spelled (sealed bs) ++ (10 ∷ [])) t₀
 unfolding sealed check
 wrote-all t₀ t t′ bs at sum n h so p =
     let last = spelled ((256 - total bs) % 256 ∷ []) ++ (10 ∷ []) in
     let front = length-spelled bs in
-    let back : length last ≡ 3 = length-append (spelled ((256 - total bs) % 256 ∷ [])) (10 ∷ []) ∙ ap (λ (m : ℕ). m + 1) (length-spelled ((256 - total bs) % 256 ∷ [])) in
-    let all : spelled (bs ++ ((256 - total bs) % 256 ∷ [])) ++ (10 ∷ []) ≡ spelled bs ++ last = rw (spelled-append bs ((256 - total bs) % 256 ∷ [])) (append-assoc (spelled bs) (spelled ((256 - total bs) % 256 ∷ [])) (10 ∷ [])) in
+    let end = (256 - total bs) % 256 ∷ [] in
+    let back : length last ≡ 3 = length-append (spelled end) (10 ∷ []) ∙ ap (λ (m : ℕ). m + 1) (length-spelled end) in
+    let all : spelled (bs ++ end) ++ (10 ∷ []) ≡ spelled bs ++ last = rw (spelled-append bs end) (append-assoc (spelled bs) (spelled end) (10 ∷ [])) in
     rw (p, so .bytes, so .sums, all) (place-append 0 (2 * at) (spelled bs) last t₀ (omega arith) (omega arith))
 
 -- the frames, field after field
@@ -187,6 +201,5 @@ put-session t₀ t₁ t₂ t₃ t₄ t₅ t₆ t₇ s₁ s₂ s₃ s₄ s₅ s�
     wrote-all t₀ t₆ t₇ b₆ 12 s₆ refl (omega arith) w₆ q
 
 -- the answer for an action, by the case that it is
-pub by-case : (out out′ : List ℕ) (r : Framed) (x y : Action) → x ≡ y → (r ≡ frameReply out y) × (out′ ≡ frameAfter out y) →
-    (r ≡ frameReply out x) × (out′ ≡ frameAfter out x)
+pub by-case : (out out′ : List ℕ) (r : Framed) (x y : Action) → x ≡ y → Wrote out y r out′ → Wrote out x r out′
 by-case out out′ r x y e p = rw e p

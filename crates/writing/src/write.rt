@@ -7,7 +7,8 @@ ghost use Prim.Native.Nat.{_+_, _-_, _*_, _%_, _≤_, _<_};
 ghost use lib.ListN.{length};
 ghost use Rattle.meaning.specs.declared.Action.the-variants.{Write, Session, Purge};
 ghost use Rattle.meaning.specs.Table.{place, countRight};
-ghost use Rattle.meaning.specs.Frames.{digit, spelled, highFirst, total, widths, frameOf, frame, frameReply, frameAfter, startReply, startAfter};
+ghost use Rattle.meaning.specs.Frames.{digit, spelled, widths, frameOf, frame, Wrote, Began};
+ghost use Rattle.writing.specs.Puts.{Put};
 use meaning::Framed;
 
 // The digit of a number below 16: "uppercase hexadecimal".
@@ -33,7 +34,7 @@ fn put_byte(out: &mut [u8], at: usize, b: u8)
 // A field at its place, high byte first, from its last byte back; the wrapped sum grows by its bytes.
 fn put(out: &mut [u8], at: usize, width: usize, value: u32, sum: u8) -> u8
     requires { ⌜ 2 * (at + width) ≤ length (now out) ⌝ }
-    ensures { λ r. ⌜ (r ≡ (sum + total (highFirst width value)) % 256) × (now (out .exit) ≡ place (2 * at) (spelled (highFirst width value)) (now (out .entry))) ⌝ }
+    ensures { λ r. ⌜ Put (now (out .entry)) (now (out .exit)) at width value sum r ⌝ }
 {
     let mut added = sum;
     let mut rest = value;
@@ -96,7 +97,7 @@ fn put_session(out: &mut [u8], a: u8, b: u8, ca: u32, cb: u32, outcome: u8)
 
 // A write's frame into lent bytes: 17 where they are too few.
 pub fn write(out: &mut [u8], node: u8, timestamp: u32, block: u32, verdict: u8) -> Framed
-    ensures { λ r. ⌜ (r ≡ frameReply (now (out .entry)) (Write node timestamp block verdict)) × (now (out .exit) ≡ frameAfter (now (out .entry)) (Write node timestamp block verdict)) ⌝ }
+    ensures { λ r. ⌜ Wrote (now (out .entry)) (Write node timestamp block verdict) r (now (out .exit)) ⌝ }
 {
     if out.len() < 25 {
         return Framed::Refused { number: 17 };
@@ -107,7 +108,7 @@ pub fn write(out: &mut [u8], node: u8, timestamp: u32, block: u32, verdict: u8) 
 
 // A session's frame into lent bytes: 2 for an outcome above 3, then 17 where they are too few.
 pub fn session(out: &mut [u8], a: u8, b: u8, ca: u32, cb: u32, outcome: u8) -> Framed
-    ensures { λ r. ⌜ (r ≡ frameReply (now (out .entry)) (Session a b ca cb outcome)) × (now (out .exit) ≡ frameAfter (now (out .entry)) (Session a b ca cb outcome)) ⌝ }
+    ensures { λ r. ⌜ Wrote (now (out .entry)) (Session a b ca cb outcome) r (now (out .exit)) ⌝ }
 {
     if 3 < outcome {
         return Framed::Refused { number: 2 };
@@ -121,7 +122,7 @@ pub fn session(out: &mut [u8], a: u8, b: u8, ca: u32, cb: u32, outcome: u8) -> F
 
 // A purge's frame into lent bytes: 17 where they are too few.
 pub fn purge(out: &mut [u8], node: u8) -> Framed
-    ensures { λ r. ⌜ (r ≡ frameReply (now (out .entry)) (Purge node)) × (now (out .exit) ≡ frameAfter (now (out .entry)) (Purge node)) ⌝ }
+    ensures { λ r. ⌜ Wrote (now (out .entry)) (Purge node) r (now (out .exit)) ⌝ }
 {
     if out.len() < 7 {
         return Framed::Refused { number: 17 };
@@ -133,7 +134,7 @@ pub fn purge(out: &mut [u8], node: u8) -> Framed
 // A start's frame into lent bytes, its n being 2 to 16: 17 where they are too few.
 pub(crate) fn start(out: &mut [u8], n: u8) -> Framed
     requires { ⌜ countRight n ≡ true ⌝ }
-    ensures { λ r. ⌜ (r ≡ startReply (now (out .entry)) n) × (now (out .exit) ≡ startAfter (now (out .entry)) n) ⌝ }
+    ensures { λ r. ⌜ Began (now (out .entry)) n r (now (out .exit)) ⌝ }
 {
     if out.len() < 7 {
         return Framed::Refused { number: 17 };

@@ -1,24 +1,30 @@
--- `kind` meets its contract: a refused line, and the first byte of any other.
-use mathlib.Core.Path.{sym, _∙_}
-use Rattle.reading.proofs.LineLaws.{refused-kind, first-in, line-kind}
+-- `kind` meets its contract: a refused line, and the head of any other.
+use mathlib.Core.Path.{refl}
+use Rattle.meaning.specs.Frames.{lineRefusal}
+use Rattle.reading.proofs.HeadLaws.{head-clear, head-refused}
+use Rattle.reading.proofs.LineLaws.{refused-kind, line-kind}
 use borrow.Author.Needs.{needs}
 use Rattle.reading.proofs.kind.Statement.{statement}
 use Rattle.reading.proofs.kind.Tie as tie
 
-refusal-requires : tie.Need-refusal-requires
-refusal-requires c κs = search needs
+head-requires : tie.Need-head-requires
+head-requires c κs = search needs
 
-byte-requires : tie.Need-byte-requires
-byte-requires c κs = first-in (c .before .before .before .args .s .now) (sym (c .before .refusal .ensures) ∙ c .match .keys1)
+returns : tie.Need-returns
+returns c =
+    let at-head = c .before in
+    let s = at-head .before .before .args .s .now in
+    refused-kind s (lineRefusal s) refl (head-refused s (at-head .head .result) (at-head .head .ensures) (c .if1 .taken))
 
 cast-result : tie.Need-cast-result
 cast-result c = search needs
 
-returns : tie.Need-returns
-returns c = line-kind (c .before .before .before .before .args .s .now) (sym (c .before .before .refusal .ensures) ∙ c .before .match .keys1) (c .byte .result) (c .byte .ensures)
-
 returns-2 : tie.Need-returns-2
-returns-2 c = refused-kind (c .before .before .before .args .s .now) (c .before .refusal .result) (c .before .refusal .ensures) (c .match .rest .1)
+returns-2 c =
+    let at-head = c .before in
+    let s = at-head .before .before .args .s .now in
+    let told = head-clear s (at-head .head .result) (at-head .head .ensures) (c .if1 .left) in
+    line-kind s (told .0) (at-head .head .result) (told .1)
 
 pub kind-spec : {M : Type 1} → statement M
-kind-spec = tie.close (tie.spec refusal-requires byte-requires cast-result returns returns-2)
+kind-spec = tie.close (tie.spec head-requires returns cast-result returns-2)

@@ -28,10 +28,11 @@ returns : tie.Need-returns
 returns c =
     let at-put-byte = c .before .before in
     let at-wrapping-sub-u8 = at-put-byte .before in
+    let sub = at-wrapping-sub-u8 .wrapping-sub-u8 in
     let start = at-wrapping-sub-u8 .before .before .before in
-    put-last (start .args .out .now) (at-put-byte .put-byte .last .0) (start .args .at) (at-wrapping-sub-u8 .wrapping-sub-u8 .result)
+    put-last (start .args .out .now) (at-put-byte .put-byte .last .0) (start .args .at) (sub .result)
     ((256 - start .args .sum) % 256) (start .pre)
-    (negated (at-wrapping-sub-u8 .wrapping-sub-u8 .result) (start .args .sum) (omega (arith, at-wrapping-sub-u8 .wrapping-sub-u8 .ok)) (omega (arith, start .fits .sum)) (at-wrapping-sub-u8 .wrapping-sub-u8 .ensures))
+    (negated (sub .result) (start .args .sum) (omega (arith, sub .ok)) (omega (arith, start .fits .sum)) (sub .ensures))
     (at-put-byte .put-byte .ensures)
 
 pub finish-spec : {M : Type 1} → statement M

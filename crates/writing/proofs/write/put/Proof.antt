@@ -1,3 +1,4 @@
+-- `put` meets its contract. The loop's invariant: what is left to put, and to add, gives the whole field.
 use Rattle.writing.proofs.WriteLaws.{put-turn, sum-turn, put-end, sum-end}
 use mathlib.Core.Path.{_≡_, refl}
 use Prim.Native.Nat.{_+_, _-_, _*_, _%_, _≤_, _<_}
@@ -9,10 +10,11 @@ use Rattle.meaning.specs.Frames.{spelled, highFirst, total}
 use Rattle.writing.proofs.write.put.Statement.{statement}
 use Rattle.writing.proofs.write.put.Tie as tie
 
--- `put` meets its contract. The loop's invariant: what is left to put, and to add, gives the whole field.
-
 abbrev Inv-loop : tie.InvT-loop
-Inv-loop out₀ at width value sum added₀ rest₀ k₀ out added rest k = (k ≤ width) × (added < 256) × (length out ≡ length out₀) × (place (2 * at) (spelled (highFirst k rest)) out ≡ place (2 * at) (spelled (highFirst width value)) out₀) × ((added + total (highFirst k rest)) % 256 ≡ (sum + total (highFirst width value)) % 256)
+Inv-loop out₀ at width value sum added₀ rest₀ k₀ out added rest k =
+    (k ≤ width) × (added < 256) × (length out ≡ length out₀)
+    × (place (2 * at) (spelled (highFirst k rest)) out ≡ place (2 * at) (spelled (highFirst width value)) out₀)
+    × ((added + total (highFirst k rest)) % 256 ≡ (sum + total (highFirst width value)) % 256)
 
 abbrev μ-loop : tie.MeasureT-loop
 μ-loop out₀ at width value sum added₀ rest₀ k₀ out added rest k = k
@@ -62,7 +64,10 @@ returns c =
     let none : at-loop .loop .k ≡ 0 = omega arith in
     let whole = place (2 * start .args .at) (spelled (highFirst (start .args .width) (start .args .value))) (start .args .out .now) in
     let sums = (start .args .sum + total (highFirst (start .args .width) (start .args .value))) % 256 in
-    (sum-end (at-loop .loop .added) (at-loop .loop .k) (at-loop .loop .rest) sums none (at-loop .loop .inv .1) (at-loop .loop .inv .4), put-end (at-loop .loop .out) whole (start .args .at) (at-loop .loop .k) (at-loop .loop .rest) none (at-loop .loop .inv .3))
+    let loop = at-loop .loop in (
+      sum-end (loop .added) (loop .k) (loop .rest) sums none (loop .inv .1) (loop .inv .4),
+      put-end (loop .out) whole (start .args .at) (loop .k) (loop .rest) none (loop .inv .3),
+    )
 
 pub put-spec : {M : Type 1} → statement M
 put-spec =

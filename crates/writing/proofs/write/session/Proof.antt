@@ -27,12 +27,13 @@ same-length c = search needs
 returns-3 : tie.Need-returns-3
 returns-3 c =
     let at-put-session = c .before .before in
-    let start = at-put-session .before .before .before .before .before in
-    framed-full (start .args .out .now) (at-put-session .put-session .last .0)
-    (Session (start .args .a) (start .args .b) (start .args .ca) (start .args .cb) (start .args .outcome)) 27
-    (within-three (start .args .a) (start .args .b) (start .args .ca) (start .args .cb) (start .args .outcome) (c .before .before .before .before .before .if1 .left))
-    (length-session (start .args .a) (start .args .b) (start .args .ca) (start .args .cb) (start .args .outcome))
-    (c .before .before .before .before .if2 .left) (at-put-session .put-session .ensures)
+    let at-if2 = at-put-session .before .before in
+    let at-if1 = at-if2 .before in
+    let start = at-if1 .before .before in
+    let x = start .args in
+    framed-full (x .out .now) (at-put-session .put-session .last .0) (Session (x .a) (x .b) (x .ca) (x .cb) (x .outcome)) 27
+    (within-three (x .a) (x .b) (x .ca) (x .cb) (x .outcome) (at-if1 .if1 .left)) (length-session (x .a) (x .b) (x .ca) (x .cb) (x .outcome))
+    (at-if2 .if2 .left) (at-put-session .put-session .ensures)
 
 pub session-spec : {M : Type 1} → statement M
 session-spec = tie.close (tie.spec returns returns-2 put-session-requires same-length returns-3)
