@@ -1,25 +1,19 @@
 // Session: two nodes of a table known to be sound trade what the other lacks. Document 01, "The three actions".
 // Inner functions: what they require, the table's entry points show.
 ghost use mathlib.Core.Path.{_≡_};
-ghost use mathlib.Core.Bool.{false, _||_, _&&_};
-ghost use Prim.Native.Nat.{_+_, _≤_, _<_};
-ghost use lib.ListN.{length, take};
-ghost use lib.Dec.{eqb, ltb};
-ghost use Rattle.meaning.specs.Table.{nodesMost, logMost, count, held, node, place, summaryAt, acksAt, Sound};
-ghost use Rattle.meaning.specs.Node.{opened};
-ghost use Rattle.meaning.specs.Steps.{reply, after, replyFrom, afterFrom};
-ghost use Rattle.meaning.specs.declared.Action.{Action};
-ghost use Rattle.meaning.specs.declared.Reply.{Reply};
-ghost use Rattle.sides.specs.Begun.{begun, came, grown, heldLog, merged, Exchanged, Meets, Merges, Takes};
+ghost use Prim.Native.Nat.{_≤_, _<_};
+ghost use Rattle.meaning.specs.Table.{count, Sound};
+ghost use Rattle.meaning.specs.declared.Action.the-variants.{Session};
+ghost use Rattle.looks.specs.Applied.{Applied};
+ghost use Rattle.sessions.specs.Met.{Exchanged, Meets};
 use looks::held_of;
 use looks::nodes_of;
 use looks::own_of;
 use meaning::Reply;
 use sides::finishes;
-use sides::merge;
 use sides::opening;
 use sides::overfills;
-use sides::take;
+use sides::side;
 
 // The session between two nodes whose readings are in order: refused with 6, or both sides done, each from the starting values. b is
 // shown as many of a's records as a began with.
@@ -46,20 +40,20 @@ fn exchange(
     if overfills(t, to_b, a, sb, held_b, held_a) {
         return Reply::Refused { number: 6 };
     }
-    let now_a = take(t, to_a, a, b, sa, held_a, held_b);
-    merge(t, to_a, a, sa, ka, sb, kb);
-    let now_b = take(t, to_b, b, a, sb, held_b, held_a);
-    merge(t, to_b, b, sb, kb, sa, ka);
+    let now_a = side(t, to_a, a, b, sa, ka, sb, kb, held_a, held_b);
+    let now_b = side(t, to_b, b, a, sb, kb, sa, ka, held_b, held_a);
+    let came_a = (now_a - held_a) as u32;
+    let came_b = (now_b - held_b) as u32;
     Reply::Carried {
-        a: (now_a - held_a) as u32,
-        b: (now_b - held_b) as u32,
+        a: came_a,
+        b: came_b,
     }
 }
 
-// The session between two different nodes of the table: refused with 5 or 6, or done.
+// The session between two different nodes of the table, its outcome known to be at most 3: refused with 5 or 6, or done.
 fn meet(t: &mut [u32], a: usize, b: usize, ca: u32, cb: u32, outcome: u8) -> Reply
-    requires { ⌜ Sound (now t) × (a < count (now t)) × (b < count (now t)) × (a ≡ b → ⊥) ⌝ }
-    ensures { λ r. ⌜ (r ≡ replyFrom 5 (now (t .entry)) (Action.Session a b ca cb outcome)) × (now (t .exit) ≡ afterFrom 5 (now (t .entry)) (Action.Session a b ca cb outcome)) ⌝ }
+    requires { ⌜ Sound (now t) × (a < count (now t)) × (b < count (now t)) × (a ≡ b → ⊥) × (outcome ≤ 3) ⌝ }
+    ensures { λ r. ⌜ Applied (now (t .entry)) (Session a b ca cb outcome) r (now (t .exit)) ⌝ }
 {
     if ca < own_of(t, a) {
         return Reply::Refused { number: 5 };
@@ -80,7 +74,7 @@ fn meet(t: &mut [u32], a: usize, b: usize, ca: u32, cb: u32, outcome: u8) -> Rep
 // A session on a sound table, refused with 2 to 6 or done.
 pub fn session(t: &mut [u32], a: u8, b: u8, ca: u32, cb: u32, outcome: u8) -> Reply
     requires { ⌜ Sound (now t) ⌝ }
-    ensures { λ r. ⌜ (r ≡ reply (now (t .entry)) (Action.Session a b ca cb outcome)) × (now (t .exit) ≡ after (now (t .entry)) (Action.Session a b ca cb outcome)) ⌝ }
+    ensures { λ r. ⌜ Applied (now (t .entry)) (Session a b ca cb outcome) r (now (t .exit)) ⌝ }
 {
     if 3 < outcome {
         return Reply::Refused { number: 2 };

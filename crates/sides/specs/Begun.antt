@@ -1,26 +1,32 @@
--- What a side of a session begins with, as the code keeps it: its starting summary and acknowledgement row. And what the inner functions
--- of a session require.
+-- What a side of a session begins with, as the code keeps it: its starting summary and acknowledgement row. What the functions of a side
+-- require, and what they settle.
 use mathlib.Core.Path.{_≡_}
-use mathlib.Core.Bool.{Bool, true, false, _||_}
+use mathlib.Core.Bool.{Bool, true, false, _&&_}
 use mathlib.Core.List.{List, [], _∷_}
 use Prim.Native.Nat.{ℕ, _+_, _*_, _≤_, _<_}
-use lib.ListN.{length}
+use lib.ListN.{length, take}
+use lib.Dec.{ltb}
 use Rattle.meaning.specs.declared.Record.{Record}
-use Rattle.meaning.specs.declared.Reply.{Reply}
-use Rattle.meaning.specs.declared.Reply.the-variants.{Carried}
-use Rattle.meaning.specs.Refusals.{test, first}
-use Rattle.meaning.specs.Rows.{unless, newer, raise, records, words}
-use Rattle.meaning.specs.Table.{Node, tableWords, nodesMost, logMost, heldAt, logAt, part, place, count, held, node, putNode, Sound}
-use Rattle.meaning.specs.Node.{ended}
-use Rattle.meaning.specs.Steps.{finishesA, finishesB, overfull, carried, replied}
+use Rattle.meaning.specs.Rows.{newer, raise, records, words}
+use Rattle.meaning.specs.Table.{Node, tableWords, nodesMost, logMost, summaryAt, acksAt, heldAt, logAt, part, place, count, held, node, putNode, Sound}
+use Rattle.meaning.specs.Node.{opened, ended}
+use Rattle.meaning.specs.Steps.{overfull, carried}
 
 -- the node that a side's starting rows and a log make
 abbrev pub begun : List ℕ → List ℕ → List Record → Node
 begun summary acks log = record { summary = summary; acks = acks; log = log }
 
+-- the first n entries of two rows are the starting values of node p
+abbrev pub Starts : List ℕ → ℕ → ℕ → ℕ → List ℕ → List ℕ → Type 0
+Starts t p n reading summary acks = begun (take n summary) (take n acks) (node t p .log) ≡ opened p reading (node t p)
+
 -- the first k records of node q's log
 abbrev pub heldLog : List ℕ → ℕ → ℕ → List Record
 heldLog t q k = records k (part (logAt q) (4 * logMost) t)
+
+-- a side with so many records that finishes would hold more than 64, those of a log that are newer than a row among them
+abbrev pub crowds : Bool → List ℕ → ℕ → List Record → Bool
+crowds finishes known had log = finishes && ltb logMost (had + length (newer known log))
 
 -- what of a log a side takes, comparing with a row: the newer records if it finishes
 abbrev pub came : Bool → List ℕ → List Record → List Record
@@ -36,45 +42,60 @@ merged false mine theirs = mine
 abbrev pub grown : ℕ → List Record → List ℕ → List ℕ
 grown p rs t = place (heldAt p) ((held t p + length rs) ∷ []) (place (logAt p + 4 * held t p) (words rs) t)
 
--- Two nodes of a sound table, a row with an entry for each node, how many records p holds and how many of q's it is shown
-pub record Takes (t : List ℕ) (p q : ℕ) (known : List ℕ) (mineHeld theirsHeld : ℕ) : Type 0 where
+-- the table with both rows of node p as they become
+abbrev pub rowsPut : Bool → ℕ → List ℕ → List ℕ → List ℕ → List ℕ → List ℕ → List ℕ
+rowsPut finishes p sp kp sq kq t = place (summaryAt p) (merged finishes sp sq) (place (acksAt p) (merged finishes kp kq) t)
+
+-- the table after one side, p, that begins as x, its partner as y
+abbrev pub sided : Bool → ℕ → Node → Node → List ℕ → List ℕ
+sided finishes p x y t = putNode p (ended finishes x y) t
+
+-- A node of a sound table, a row with an entry for each node, how many records the side has and how many of the node's it is shown
+pub record Shows (t : List ℕ) (q : ℕ) (known : List ℕ) (had shown : ℕ) : Type 0 where
+  pub isSound : Sound t
+  pub there : q < count t
+  pub long : length known ≡ count t
+  pub most : had ≤ logMost
+  pub theirs : shown ≤ held t q
+
+-- Two nodes of a sound table, a row with an entry for each node, how many records p has, how many of q's it is shown, and room for what comes
+pub record Takes (t : List ℕ) (f : Bool) (p q : ℕ) (known : List ℕ) (had shown : ℕ) : Type 0 where
   pub isSound : Sound t
   pub here : p < count t
   pub there : q < count t
   pub apart : p ≡ q → ⊥
   pub long : length known ≡ count t
-  pub mineNow : mineHeld ≡ held t p
-  pub theirsMost : theirsHeld ≤ held t q
+  pub mine : had ≡ held t p
+  pub theirs : shown ≤ held t q
+  pub room : crowds f known had (heldLog t q shown) ≡ false
+
+-- How many records p then has, and the words at exit
+pub record Took (t : List ℕ) (f : Bool) (p q : ℕ) (known : List ℕ) (had shown r : ℕ) (u : List ℕ) : Type 0 where
+  pub total : r ≡ had + length (came f known (heldLog t q shown))
+  pub most : r ≤ logMost
+  pub leaves : u ≡ grown p (came f known (heldLog t q shown)) t
 
 -- Rows of one length, to be put at node p of a table of the right length
-pub record Merges (t : List ℕ) (p : ℕ) (s k s′ k′ : List ℕ) : Type 0 where
+pub record Merges (t : List ℕ) (p : ℕ) (sp kp sq kq : List ℕ) : Type 0 where
   pub long : length t ≡ tableWords
   pub here : p < nodesMost
-  pub high : (length s ≤ nodesMost) × (length k ≤ nodesMost)
-  pub same : (length s′ ≡ length s) × (length k′ ≡ length k)
+  pub high : (length sp ≤ nodesMost) × (length kp ≤ nodesMost)
+  pub same : (length sq ≡ length sp) × (length kq ≡ length kp)
 
--- Two nodes of a sound table that meet, with their starting rows
-pub record Meets (t : List ℕ) (a b : ℕ) (sa ka sb kb : List ℕ) : Type 0 where
+-- Side p of a session with q: as for `Takes`, with all four starting rows
+pub record Sides (t : List ℕ) (f : Bool) (p q : ℕ) (sp kp sq kq : List ℕ) (had shown : ℕ) : Type 0 where
   pub isSound : Sound t
-  pub hereA : a < count t
-  pub hereB : b < count t
-  pub apart : a ≡ b → ⊥
-  pub longA : (length sa ≡ count t) × (length ka ≡ count t)
-  pub longB : (length sb ≡ count t) × (length kb ≡ count t)
+  pub here : p < count t
+  pub there : q < count t
+  pub apart : p ≡ q → ⊥
+  pub longP : (length sp ≡ count t) × (length kp ≡ count t)
+  pub longQ : (length sq ≡ count t) × (length kq ≡ count t)
+  pub mine : had ≡ held t p
+  pub theirs : shown ≤ held t q
+  pub room : overfull f (begun sp kp (node t p .log)) (begun sq kq (heldLog t q shown)) ≡ false
 
--- What a session between two nodes comes to, from their starting rows: refused with 6 and nothing changed, or both sides ended
-abbrev pub crowded : List ℕ → ℕ → ℕ → ℕ → List ℕ → List ℕ → List ℕ → List ℕ → Bool
-crowded t o a b sa ka sb kb =
-    overfull (finishesA o) (begun sa ka (node t a .log)) (begun sb kb (node t b .log)) ||
-    overfull (finishesB o) (begun sb kb (node t b .log)) (begun sa ka (node t a .log))
-
-pub record Exchanged (t : List ℕ) (o a b : ℕ) (sa ka sb kb : List ℕ) (r : Reply) (u : List ℕ) : Type 0 where
-  pub replies :
-      r ≡
-      replied (first (test 6 (crowded t o a b sa ka sb kb) ∷ []))
-      (Carried (carried (finishesA o) (begun sa ka (node t a .log)) (begun sb kb (node t b .log))) (carried (finishesB o) (begun sb kb (node t b .log)) (begun sa ka (node t a .log))))
-  pub leaves :
-      u ≡
-      unless (first (test 6 (crowded t o a b sa ka sb kb) ∷ []))
-      (putNode b (ended (finishesB o) (begun sb kb (node t b .log)) (begun sa ka (node t a .log))) (putNode a (ended (finishesA o) (begun sa ka (node t a .log)) (begun sb kb (node t b .log))) t))
-      t
+-- How many records p then has, and the words at exit
+pub record Sided (t : List ℕ) (f : Bool) (p q : ℕ) (sp kp sq kq : List ℕ) (had shown r : ℕ) (u : List ℕ) : Type 0 where
+  pub total : r ≡ had + carried f (begun sp kp (node t p .log)) (begun sq kq (heldLog t q shown))
+  pub most : r ≤ logMost
+  pub leaves : u ≡ sided f p (begun sp kp (node t p .log)) (begun sq kq (heldLog t q shown)) t

@@ -3,12 +3,12 @@
 
 ghost use mathlib.Core.Path.{_≡_};
 ghost use Rattle.meaning.specs.Table.{freshRefusal, madeFresh, Sound};
-ghost use Rattle.meaning.specs.Steps.{reply, after};
+ghost use Rattle.looks.specs.Applied.{Applied};
 use meaning::Action;
 use meaning::Reply;
 use meaning::Step;
-use rows::row::clear;
-use rows::row::put_word;
+use rows::clear;
+use rows::put_word;
 
 pub mod act;
 
@@ -34,7 +34,7 @@ pub fn fresh(t: &mut [u32], n: u32) -> u32
 // One action on a table that is known to be sound: what `apply` does after its scan, and what a run from a fresh table does at every step.
 pub fn apply_sound(t: &mut [u32], action: Action) -> Reply
     requires { ⌜ Sound (now t) ⌝ }
-    ensures { λ r. ⌜ (r ≡ reply (now (t .entry)) action) × (now (t .exit) ≡ after (now (t .entry)) action) ⌝ }
+    ensures { λ r. ⌜ Applied (now (t .entry)) action r (now (t .exit)) ⌝ }
 {
     match action {
         Action::Write {
@@ -56,7 +56,7 @@ pub fn apply_sound(t: &mut [u32], action: Action) -> Reply
 
 // One step on any words at all: the refusal number, or what the step reports; a refusal changes no word.
 pub fn apply(t: &mut [u32], step: Step) -> Reply
-    ensures { λ r. ⌜ (r ≡ reply (now (t .entry)) (step .action)) × (now (t .exit) ≡ after (now (t .entry)) (step .action)) ⌝ }
+    ensures { λ r. ⌜ Applied (now (t .entry)) (step .action) r (now (t .exit)) ⌝ }
 {
     if !soundness::is_sound(t) {
         return Reply::Refused { number: 1 };

@@ -88,7 +88,9 @@ kept-less f w k j s s' n b ek eb e before =
     ap (λ (x : ℕ). x + length (keep f (records j w))) e ∙
     go b (rw (ek, add-one, keep-append, keep-one, length-append, ← eb))
   where
-    go : (b : Bool) → length (keep f (records k w)) ≡ length (keep f (records j w)) + length (keepIf b (recordAt w j) []) → cond b (s + 1) s + length (keep f (records j w)) ≡ n
+    go :
+        (b : Bool) → length (keep f (records k w)) ≡ length (keep f (records j w)) + length (keepIf b (recordAt w j) []) → cond b (s + 1) s + length
+        (keep f (records j w)) ≡ n
     go true more = omega arith
     go false more = omega arith
 

@@ -1,17 +1,17 @@
 // Write: one record more at its node.
 ghost use mathlib.Core.Path.{_≡_};
 ghost use Prim.Native.Nat.{_<_};
-ghost use Rattle.meaning.specs.declared.Action.{Action};
+ghost use Rattle.meaning.specs.declared.Action.the-variants.{Write};
 ghost use Rattle.meaning.specs.Table.{logMost, count, held, node, putNode, Sound};
 ghost use Rattle.meaning.specs.Node.{wrote};
-ghost use Rattle.meaning.specs.Steps.{reply, after};
+ghost use Rattle.looks.specs.Applied.{Applied};
+use logs::put_record;
 use looks::held_of;
 use looks::nodes_of;
 use looks::own_of;
 use meaning::Record;
 use meaning::Reply;
-use rows::log::put_record;
-use rows::row::put_word;
+use rows::put_word;
 
 // "The record with origin p goes after the last held record of p; the summary entry of p for itself becomes t."
 fn append(t: &mut [u32], p: usize, held: usize, r: Record)
@@ -26,7 +26,7 @@ fn append(t: &mut [u32], p: usize, held: usize, r: Record)
 // A write on a sound table, refused with 3, 5 or 6 or done.
 pub fn write(t: &mut [u32], node: u8, timestamp: u32, block: u32, verdict: u8) -> Reply
     requires { ⌜ Sound (now t) ⌝ }
-    ensures { λ r. ⌜ (r ≡ reply (now (t .entry)) (Action.Write node timestamp block verdict)) × (now (t .exit) ≡ after (now (t .entry)) (Action.Write node timestamp block verdict)) ⌝ }
+    ensures { λ r. ⌜ Applied (now (t .entry)) (Write node timestamp block verdict) r (now (t .exit)) ⌝ }
 {
     let p = node as usize;
     if nodes_of(t) <= p {

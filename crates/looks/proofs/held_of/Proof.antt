@@ -6,9 +6,6 @@ use Rattle.meaning.specs.Table.{held, logMost}
 use borrow.Author.Needs.{needs}
 use Rattle.looks.proofs.held_of.Statement.{statement}
 use Rattle.looks.proofs.held_of.Tie as tie
-use Rattle.looks.proofs.held_of.Reads as reads
-use Rattle.looks.proofs.held_of.Lts as lts
-use Rattle.layout.proofs.held_of.Reads as held-of-reads
 
 held-of-requires : tie.Need-held-of-requires
 held-of-requires c κs = search needs
@@ -18,8 +15,10 @@ cast-result c = search needs
 
 returns : tie.Need-returns
 returns c =
-    let e : c .held-of .result ≡ held (c .before .before .args .t .now) (c .before .before .args .p) = c .held-of .ensures in
-    let r : held (c .before .before .args .t .now) (c .before .before .args .p) ≤ logMost = c .before .before .pre .0 .room (c .before .before .args .p) (c .before .before .pre .1) in
+    let start = c .before .before in
+    let p = start .args .p in
+    let e : c .held-of .result ≡ held (start .args .t .now) p = c .held-of .ensures in
+    let r : held (start .args .t .now) p ≤ logMost = start .pre .0 .room p (start .pre .1) in
     (e, omega arith)
 
 pub held-of-spec : {M : Type 1} → statement M

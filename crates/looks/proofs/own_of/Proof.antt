@@ -10,9 +10,6 @@ use Rattle.meaning.proofs.PlaceLaws.{getD-part}
 use borrow.Author.Needs.{needs}
 use Rattle.looks.proofs.own_of.Statement.{statement}
 use Rattle.looks.proofs.own_of.Tie as tie
-use Rattle.looks.proofs.own_of.Reads as reads
-use Rattle.looks.proofs.own_of.Lts as lts
-use Rattle.layout.proofs.summary_at.Reads as summary-at-reads
 
 entry : (t : List ℕ) (p at : ℕ) → p < count t → at ≡ summaryAt p → getD t (at + p) 0 ≡ own p (node t p)
 unfolding own node
@@ -31,7 +28,10 @@ shared-slice-read-result : tie.Need-shared-slice-read-result
 shared-slice-read-result c = search needs
 
 returns : tie.Need-returns
-returns c = entry (c .before .before .before .args .t .now) (c .before .before .before .args .p) (c .before .summary-at .result) (c .before .before .before .pre .1) (c .before .summary-at .ensures)
+returns c =
+    let at-summary-at = c .before in
+    let start = at-summary-at .before .before in
+    entry (start .args .t .now) (start .args .p) (at-summary-at .summary-at .result) (start .pre .1) (at-summary-at .summary-at .ensures)
 
 pub own-of-spec : {M : Type 1} → statement M
 own-of-spec =

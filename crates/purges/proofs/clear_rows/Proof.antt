@@ -9,15 +9,12 @@ use Rattle.meaning.proofs.PlaceLaws.{mid-place}
 use borrow.Author.Needs.{needs}
 use Rattle.purges.proofs.clear_rows.Statement.{statement}
 use Rattle.purges.proofs.clear_rows.Tie as tie
-use Rattle.purges.proofs.clear_rows.Reads as reads
-use Rattle.purges.proofs.clear_rows.Lts as lts
-use Rattle.layout.proofs.log_at.Reads as log-at-reads
-use Rattle.rows.proofs.row.clear.Reads as clear-reads
 
 cleared :
     (t : List ℕ) (p at left held : ℕ) (w : List ℕ) → length t ≡ tableWords → p < nodesMost → left ≤ held → held ≤ logMost → at ≡ logAt p →
     w ≡ replicate (length (take ((at + 4 * held) - (at + 4 * left)) (drop (at + 4 * left) t))) 0 →
-    take (at + 4 * left) t ++ (w ++ drop ((at + 4 * held) - (at + 4 * left)) (drop (at + 4 * left) t)) ≡ place (logAt p + 4 * left) (replicate (4 * (held - left)) 0) t
+    take (at + 4 * left) t ++ (w ++ drop ((at + 4 * held) - (at + 4 * left)) (drop (at + 4 * left) t)) ≡ place (logAt p + 4 * left)
+    (replicate (4 * (held - left)) 0) t
 cleared t p at left held w l b h r e q =
     let k : ℕ = (at + 4 * held) - (at + 4 * left) in
     let n : length (take k (drop (at + 4 * left) t)) ≡ 4 * (held - left) = simp (length-take, length-drop) (omega arith) in
@@ -59,7 +56,12 @@ same-length : tie.Need-same-length
 same-length c = search needs
 
 returns : tie.Need-returns
-returns c = cleared (c .before .before .before .before .before .before .args .t .now) (c .before .before .before .before .before .before .args .p) (c .before .before .before .before .log-at .result) (c .before .before .before .before .before .before .args .left) (c .before .before .before .before .before .before .args .held) (c .before .before .clear .last .0) (c .before .before .before .before .before .before .pre .0) (c .before .before .before .before .before .before .pre .1) (c .before .before .before .before .before .before .pre .2) (c .before .before .before .before .before .before .pre .3) (c .before .before .before .before .log-at .ensures) (c .before .before .clear .ensures)
+returns c =
+    let at-clear = c .before .before in
+    let at-log-at = at-clear .before .before in
+    let start = at-log-at .before .before in
+    cleared (start .args .t .now) (start .args .p) (at-log-at .log-at .result) (start .args .left) (start .args .held) (at-clear .clear .last .0)
+    (start .pre .0) (start .pre .1) (start .pre .2) (start .pre .3) (at-log-at .log-at .ensures) (at-clear .clear .ensures)
 
 pub clear-rows-spec : {M : Type 1} → statement M
 clear-rows-spec =

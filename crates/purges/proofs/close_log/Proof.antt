@@ -14,10 +14,6 @@ use Rattle.meaning.proofs.TableLaws.{held-log}
 use borrow.Author.Needs.{needs}
 use Rattle.purges.proofs.close_log.Statement.{statement}
 use Rattle.purges.proofs.close_log.Tie as tie
-use Rattle.purges.proofs.close_log.Reads as reads
-use Rattle.purges.proofs.close_log.Lts as lts
-use Rattle.layout.proofs.log_at.Reads as log-at-reads
-use Rattle.rows.proofs.log.close_up.Reads as close-up-reads
 
 module _ (t : List ℕ) (s : Sound t) (p : ℕ) (h : p < count t) (at k limit : ℕ) (ea : at ≡ logAt p) (ek : k ≡ held t p) where
   lent : take ((at + 256) - at) (drop at t) ≡ part (logAt p) (4 * logMost) t
@@ -58,7 +54,9 @@ module _ (t : List ℕ) (s : Sound t) (p : ℕ) (h : p < count t) (at k limit : 
       let i = inside in
       let l = length-part (logAt p) (4 * logMost) t (i .0) in
       let f = few in
-      let q : w ≡ place 0 (words (above limit (node t p .log))) (part (logAt p) (4 * logMost) t) = e ∙ ap₂ (λ (x : List Record) (y : List ℕ). place 0 (words (above limit x)) y) log-is lent in
+      let q : w ≡ place 0 (words (above limit (node t p .log))) (part (logAt p) (4 * logMost) t) =
+      e ∙ ap₂ (λ (x : List Record) (y : List ℕ). place 0 (words (above limit x)) y) log-is lent
+      in
       let g = ap (λ (x : List Record). length (above limit x)) log-is in
       let lw = length-words (above limit (node t p .log)) in
       let lp = length-place 0 (words (above limit (node t p .log))) (part (logAt p) (4 * logMost) t) (omega arith) in
@@ -84,24 +82,43 @@ part-close-up-start c = search needs
 
 part-close-up-end : tie.Need-part-close-up-end
 part-close-up-end c =
-    let i = inside (c .before .before .args .t .now) (c .before .before .pre .0) (c .before .before .args .p) (c .before .before .pre .1) (c .log-at .result) (c .before .before .args .held) (c .before .before .args .limit) (c .log-at .ensures) (c .before .before .pre .2) in
-    let e : c .log-at .result ≡ logAt (c .before .before .args .p) = c .log-at .ensures in
+    let start = c .before .before in
+    let i =
+    inside (start .args .t .now) (start .pre .0) (start .args .p) (start .pre .1) (c .log-at .result) (start .args .held) (start .args .limit)
+    (c .log-at .ensures) (start .pre .2)
+    in
+    let e : c .log-at .result ≡ logAt (start .args .p) = c .log-at .ensures in
     omega (arith, i .0)
 
 close-up-requires : tie.Need-close-up-requires
-close-up-requires c κs = room (c .before .before .before .args .t .now) (c .before .before .before .pre .0) (c .before .before .before .args .p) (c .before .before .before .pre .1) (c .before .log-at .result) (c .before .before .before .args .held) (c .before .before .before .args .limit) (c .before .log-at .ensures) (c .before .before .before .pre .2)
+close-up-requires c κs =
+    let at-log-at = c .before in
+    let start = at-log-at .before .before in
+    room (start .args .t .now) (start .pre .0) (start .args .p) (start .pre .1) (at-log-at .log-at .result) (start .args .held) (start .args .limit)
+    (at-log-at .log-at .ensures) (start .pre .2)
 
 same-length : tie.Need-same-length
 same-length c = search needs
 
 returns : tie.Need-returns
 returns c =
-    let e = log-is (c .before .before .before .before .before .before .args .t .now) (c .before .before .before .before .before .before .pre .0) (c .before .before .before .before .before .before .args .p) (c .before .before .before .before .before .before .pre .1) (c .before .before .before .before .log-at .result) (c .before .before .before .before .before .before .args .held) (c .before .before .before .before .before .before .args .limit) (c .before .before .before .before .log-at .ensures) (c .before .before .before .before .before .before .pre .2) in
-    let f = few (c .before .before .before .before .before .before .args .t .now) (c .before .before .before .before .before .before .pre .0) (c .before .before .before .before .before .before .args .p) (c .before .before .before .before .before .before .pre .1) (c .before .before .before .before .log-at .result) (c .before .before .before .before .before .before .args .held) (c .before .before .before .before .before .before .args .limit) (c .before .before .before .before .log-at .ensures) (c .before .before .before .before .before .before .pre .2) in
-    let r = c .before .before .close-up .ensures .0 in (
-      r ∙ ap (λ (x : List Record). length (above (c .before .before .before .before .before .before .args .limit) x)) e,
+    let at-close-up = c .before .before in
+    let at-log-at = at-close-up .before .before in
+    let start = at-log-at .before .before in
+    let held = start .args .held in
+    let limit = start .args .limit in
+    let p = start .args .p in
+    let t = start .args .t .now in
+    let e = log-is t (start .pre .0) p (start .pre .1) (at-log-at .log-at .result) held limit (at-log-at .log-at .ensures) (start .pre .2) in
+    let f = few t (start .pre .0) p (start .pre .1) (at-log-at .log-at .result) held limit (at-log-at .log-at .ensures) (start .pre .2) in
+    let r = at-close-up .close-up .ensures .many in (
+      record {
+        many = r ∙ ap (λ (x : List Record). length (above limit x)) e;
+        leaves =
+            closed t (start .pre .0) p (start .pre .1) (at-log-at .log-at .result) held limit (at-log-at .log-at .ensures) (start .pre .2)
+            (at-close-up .close-up .last .0) (at-close-up .close-up .ensures .leaves);
+      },
       rw r f,
-      closed (c .before .before .before .before .before .before .args .t .now) (c .before .before .before .before .before .before .pre .0) (c .before .before .before .before .before .before .args .p) (c .before .before .before .before .before .before .pre .1) (c .before .before .before .before .log-at .result) (c .before .before .before .before .before .before .args .held) (c .before .before .before .before .before .before .args .limit) (c .before .before .before .before .log-at .ensures) (c .before .before .before .before .before .before .pre .2) (c .before .before .close-up .last .0) (c .before .before .close-up .ensures .1),
     )
 
 pub close-log-spec : {M : Type 1} → statement M

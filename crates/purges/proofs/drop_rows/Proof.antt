@@ -2,29 +2,28 @@
 use mathlib.Core.Path.{_≡_, ap₂, _∙_}
 use Prim.Native.Nat.{ℕ, _+_, _*_, _-_, _<_}
 use mathlib.Core.List.{List, [], _∷_}
-use lib.ListN.{length, replicate}
-use Rattle.meaning.specs.Rows.{above, words}
-use Rattle.meaning.specs.Node.{purged}
-use Rattle.meaning.specs.Table.{count, held, node, place, putNode, logAt, heldAt, Sound}
+use lib.ListN.{replicate}
+use Rattle.meaning.specs.Rows.{above}
+use Rattle.meaning.specs.Table.{count, held, node, place, logAt, heldAt, Sound}
 use Rattle.meaning.proofs.PutLaws.{purge-put}
+use Rattle.logs.specs.Carry.{Puts}
+use Rattle.purges.specs.Dropped.{Dropped}
 use borrow.Author.Needs.{needs}
 use Rattle.purges.proofs.drop_rows.Statement.{statement}
 use Rattle.purges.proofs.drop_rows.Tie as tie
-use Rattle.purges.proofs.drop_rows.Reads as reads
-use Rattle.purges.proofs.drop_rows.Lts as lts
-use Rattle.layout.proofs.held_at.Reads as held-at-reads
-use Rattle.rows.proofs.row.put_word.Reads as put-word-reads
-use Rattle.purges.proofs.clear_rows.Reads as clear-rows-reads
-use Rattle.purges.proofs.close_log.Reads as close-log-reads
 
 whole :
-    (t : List ℕ) (s : Sound t) (p : ℕ) (h : p < count t) (k limit n at : ℕ) (u v w : List ℕ) → k ≡ held t p → at ≡ heldAt p → n ≡ length (above limit (node t p .log)) →
-    u ≡ place (logAt p) (words (above limit (node t p .log))) t → v ≡ place (logAt p + 4 * n) (replicate (4 * (k - n)) 0) u → w ≡ place at (n ∷ []) v →
-    w ≡ putNode p (purged limit (node t p)) t
-whole t s p h k limit n at u v w ek ea en eu ev ew =
-    ew ∙ ap₂ (λ (a : ℕ) (x : List ℕ). place a (n ∷ []) x) ea
-    (ev ∙ ap₂ (λ (m : ℕ) (x : List ℕ). place (logAt p + 4 * n) (replicate (4 * (m - n)) 0) x) ek eu) ∙
-    purge-put t s p h limit n en
+    (t : List ℕ) (s : Sound t) (p : ℕ) (h : p < count t) (k limit n at : ℕ) (u v w : List ℕ) → k ≡ held t p → at ≡ heldAt p →
+    Puts (logAt p) (above limit (node t p .log)) t n u → v ≡ place (logAt p + 4 * n) (replicate (4 * (k - n)) 0) u → w ≡ place at (n ∷ []) v →
+    Dropped t p limit n w
+whole t s p h k limit n at u v w ek ea put ev ew =
+    record {
+      many = put .many;
+      leaves =
+          ew ∙ ap₂ (λ (a : ℕ) (x : List ℕ). place a (n ∷ []) x) ea
+          (ev ∙ ap₂ (λ (m : ℕ) (x : List ℕ). place (logAt p + 4 * n) (replicate (4 * (m - n)) 0) x) ek (put .leaves)) ∙
+          purge-put t s p h limit n (put .many);
+    }
 
 close-log-requires : tie.Need-close-log-requires
 close-log-requires c κs = search needs
@@ -45,12 +44,18 @@ same-length : tie.Need-same-length
 same-length c = search needs
 
 returns : tie.Need-returns
-returns c = (
-  c .before .before .before .before .before .before .before .before .before .before .before .close-log .ensures .0,
-  c .before .before .before .before .before .before .before .before .before .before .before .close-log .ensures .1,
-  whole (c .before .before .before .before .before .before .before .before .before .before .before .before .before .before .args .t .now) (c .before .before .before .before .before .before .before .before .before .before .before .before .before .before .pre .0) (c .before .before .before .before .before .before .before .before .before .before .before .before .before .before .args .p) (c .before .before .before .before .before .before .before .before .before .before .before .before .before .before .pre .1) (c .before .before .before .before .before .before .before .before .before .before .before .before .before .before .args .held) (c .before .before .before .before .before .before .before .before .before .before .before .before .before .before .args .limit) (c .before .before .before .before .before .before .before .before .before .before .before .close-log .result) (c .before .before .before .held-at .result) (c .before .before .before .before .before .before .before .before .before .before .before .close-log .last .0) (c .before .before .before .before .before .before .before .clear-rows .last .0) (c .before .before .put-word .last .0)
-      (c .before .before .before .before .before .before .before .before .before .before .before .before .before .before .pre .2) (c .before .before .before .held-at .ensures) (c .before .before .before .before .before .before .before .before .before .before .before .close-log .ensures .0) (c .before .before .before .before .before .before .before .before .before .before .before .close-log .ensures .2) (c .before .before .before .before .before .before .before .clear-rows .ensures) (c .before .before .put-word .ensures),
-)
+returns c =
+    let at-put-word = c .before .before in
+    let at-held-at = at-put-word .before in
+    let at-clear-rows = at-held-at .before .before .before .before in
+    let at-close-log = at-clear-rows .before .before .before .before in
+    let start = at-close-log .before .before .before in (
+      whole (start .args .t .now) (start .pre .0) (start .args .p) (start .pre .1) (start .args .held) (start .args .limit)
+          (at-close-log .close-log .result) (at-held-at .held-at .result) (at-close-log .close-log .last .0) (at-clear-rows .clear-rows .last .0)
+          (at-put-word .put-word .last .0) (start .pre .2) (at-held-at .held-at .ensures) (at-close-log .close-log .ensures .0)
+          (at-clear-rows .clear-rows .ensures) (at-put-word .put-word .ensures),
+      at-close-log .close-log .ensures .1,
+    )
 
 pub drop-rows-spec : {M : Type 1} → statement M
 drop-rows-spec =

@@ -10,10 +10,6 @@ use Rattle.meaning.specs.Table.{count, node, part, acksAt, Sound}
 use borrow.Author.Needs.{needs}
 use Rattle.purges.proofs.limit_of.Statement.{statement}
 use Rattle.purges.proofs.limit_of.Tie as tie
-use Rattle.purges.proofs.limit_of.Reads as reads
-use Rattle.purges.proofs.limit_of.Lts as lts
-use Rattle.layout.proofs.acks_at.Reads as acks-at-reads
-use Rattle.rows.proofs.row.least_of.Reads as least-of-reads
 
 lent : (t : List ℕ) (p at n : ℕ) → at ≡ acksAt p → n ≡ count t → take ((at + n) - at) (drop at t) ≡ node t p .acks
 unfolding node part
@@ -44,18 +40,24 @@ part-least-of-end c = search needs
 
 least-of-requires : tie.Need-least-of-requires
 least-of-requires c κs =
-    let s : Sound (c .before .before .before .args .t .now) = c .before .before .before .pre .0 in
+    let at-acks-at = c .before in
+    let start = at-acks-at .before .before in
+    let s : Sound (start .args .t .now) = start .pre .0 in
     let l = s .long in
     let a = s .low in
     let b = s .high in
-    let f = c .before .before .before .pre .2 in
-    let h = c .before .before .before .pre .1 in
-    let e = c .before .acks-at .ensures in
-    some (c .before .before .before .args .t .now) (c .before .acks-at .result) _ (omega arith) (omega arith)
+    let f = start .pre .2 in
+    let h = start .pre .1 in
+    let e = at-acks-at .acks-at .ensures in
+    some (start .args .t .now) (at-acks-at .acks-at .result) _ (omega arith) (omega arith)
 
 returns : tie.Need-returns
 unfolding limit
-returns c = c .least-of .ensures ∙ ap least (lent (c .before .before .before .before .args .t .now) (c .before .before .before .before .args .p) (c .before .before .acks-at .result) (c .before .before .before .before .args .n) (c .before .before .acks-at .ensures) (c .before .before .before .before .pre .2))
+returns c =
+    let at-acks-at = c .before .before in
+    let start = at-acks-at .before .before in
+    c .least-of .ensures ∙ ap least
+    (lent (start .args .t .now) (start .args .p) (at-acks-at .acks-at .result) (start .args .n) (at-acks-at .acks-at .ensures) (start .pre .2))
 
 pub limit-of-spec : {M : Type 1} → statement M
 limit-of-spec =

@@ -1,9 +1,7 @@
--- `sessions::finishes` meets its contract: the first test, or else the second.
+-- `sides::finishes` meets its contract: the first test, or else the second.
 use borrow.Author.Tests.{eq-eqb, ne-eqb}
 use Rattle.sides.proofs.finishes.Statement.{statement}
 use Rattle.sides.proofs.finishes.Tie as tie
-use Rattle.sides.proofs.finishes.Reads as reads
-use Rattle.sides.proofs.finishes.Lts as lts
 
 returns : tie.Need-returns
 returns c = rw (eq-eqb (c .before .args .outcome) (c .before .args .only) (c .if1 .taken))

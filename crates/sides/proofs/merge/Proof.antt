@@ -1,28 +1,20 @@
--- `sessions::merge` meets its contract: both rows put, raised or as the side began.
+-- `sides::merge` meets its contract: both rows put, raised or as the side began.
 use mathlib.Core.Path.{_≡_, ap, ap₂, _∙_}
-use mathlib.Core.Bool.{Bool, true, false}
+use mathlib.Core.Bool.{Bool}
 use mathlib.Core.List.{List}
 use Prim.Native.Nat.{ℕ}
-use Rattle.meaning.specs.Rows.{raise}
 use Rattle.meaning.specs.Table.{place, summaryAt, acksAt}
-use Rattle.sides.specs.Begun.{merged}
+use Rattle.sides.specs.Begun.{merged, rowsPut}
 use borrow.Author.Needs.{needs}
 use Rattle.sides.proofs.merge.Statement.{statement}
 use Rattle.sides.proofs.merge.Tie as tie
-use Rattle.sides.proofs.merge.Reads as reads
-use Rattle.sides.proofs.merge.Lts as lts
-use Rattle.layout.proofs.acks_at.Reads as acks-at-reads
-use Rattle.layout.proofs.summary_at.Reads as summary-at-reads
-use Rattle.rows.proofs.row.put_raised.Reads as put-raised-reads
-use Rattle.rows.proofs.row.put_row.Reads as put-row-reads
 
+-- both rows put, by the branch g that was taken
 both :
-    (t : List ℕ) (p sa ka : ℕ) (x y u v : List ℕ) → sa ≡ summaryAt p → ka ≡ acksAt p → u ≡ place ka y t → v ≡ place sa x u → v ≡ place (summaryAt p) x (place (acksAt p) y t)
-both t p sa ka x y u v es ek eu ev = ev ∙ ap₂ (λ (i : ℕ) (z : List ℕ). place i x z) es (eu ∙ ap (λ (i : ℕ). place i y t) ek)
-
--- which of the two a row becomes
-is : (f : Bool) (t : List ℕ) (p : ℕ) (s k s′ k′ v : List ℕ) (g : Bool) → f ≡ g → v ≡ place (summaryAt p) (merged g s s′) (place (acksAt p) (merged g k k′) t) → v ≡ place (summaryAt p) (merged f s s′) (place (acksAt p) (merged f k k′) t)
-is f t p s k s′ k′ v g e h = rw e h
+    {f g : Bool} → f ≡ g → (t : List ℕ) (p sa ka : ℕ) (sp kp sq kq u v : List ℕ) → sa ≡ summaryAt p → ka ≡ acksAt p →
+    u ≡ place ka (merged g kp kq) t → v ≡ place sa (merged g sp sq) u → v ≡ rowsPut f p sp kp sq kq t
+both {f} {g} e t p sa ka sp kp sq kq u v es ek eu ev =
+    rw e (ev ∙ ap₂ (λ (i : ℕ) (z : List ℕ). place i (merged g sp sq) z) es (eu ∙ ap (λ (i : ℕ). place i (merged g kp kq) t) ek))
 
 acks-at-requires : tie.Need-acks-at-requires
 acks-at-requires c κs = search needs
@@ -53,16 +45,31 @@ same-length c = search needs
 
 returns : tie.Need-returns
 returns c =
-    is (c .before .before .before .before .before .before .before .before .before .before .before .before .before .before .before .before .args .finishes) (c .before .before .before .before .before .before .before .before .before .before .before .before .before .before .before .before .args .t .now) (c .before .before .before .before .before .before .before .before .before .before .before .before .before .before .before .before .args .p) (c .before .before .before .before .before .before .before .before .before .before .before .before .before .before .before .before .args .summary .now) (c .before .before .before .before .before .before .before .before .before .before .before .before .before .before .before .before .args .acks .now) (c .before .before .before .before .before .before .before .before .before .before .before .before .before .before .before .before .args .their-summary .now) (c .before .before .before .before .before .before .before .before .before .before .before .before .before .before .before .before .args .their-acks .now) (c .before .before .put-raised2 .last .0) true (c .before .before .before .before .before .before .before .before .before .before .if1 .taken)
-    (both (c .before .before .before .before .before .before .before .before .before .before .before .before .before .before .before .before .args .t .now) (c .before .before .before .before .before .before .before .before .before .before .before .before .before .before .before .before .args .p) (c .before .before .before .summary-at .result) (c .before .before .before .before .before .before .before .before .acks-at .result) (raise (c .before .before .before .before .before .before .before .before .before .before .before .before .before .before .before .before .args .summary .now) (c .before .before .before .before .before .before .before .before .before .before .before .before .before .before .before .before .args .their-summary .now)) (raise (c .before .before .before .before .before .before .before .before .before .before .before .before .before .before .before .before .args .acks .now) (c .before .before .before .before .before .before .before .before .before .before .before .before .before .before .before .before .args .their-acks .now)) (c .before .before .before .before .before .before .before .put-raised .last .0) (c .before .before .put-raised2 .last .0) (c .before .before .before .summary-at .ensures) (c .before .before .before .before .before .before .before .before .acks-at .ensures) (c .before .before .before .before .before .before .before .put-raised .ensures) (c .before .before .put-raised2 .ensures))
+    let at-put-raised2 = c .before .before in
+    let at-summary-at = at-put-raised2 .before in
+    let at-put-raised = at-summary-at .before .before .before .before in
+    let at-acks-at = at-put-raised .before in
+    let at-if1 = at-acks-at .before .before in
+    let start = at-if1 .before .before .before .before .before .before in
+    both (at-if1 .if1 .taken) (start .args .t .now) (start .args .p) (at-summary-at .summary-at .result) (at-acks-at .acks-at .result)
+    (start .args .sp .now) (start .args .kp .now) (start .args .sq .now) (start .args .kq .now) (at-put-raised .put-raised .last .0)
+    (at-put-raised2 .put-raised2 .last .0)
+    (at-summary-at .summary-at .ensures) (at-acks-at .acks-at .ensures) (at-put-raised .put-raised .ensures) (at-put-raised2 .put-raised2 .ensures)
 
 same-length-2 : tie.Need-same-length-2
 same-length-2 c = search needs
 
 returns-2 : tie.Need-returns-2
 returns-2 c =
-    is (c .before .before .before .before .before .before .before .before .before .before .before .before .before .before .before .before .args .finishes) (c .before .before .before .before .before .before .before .before .before .before .before .before .before .before .before .before .args .t .now) (c .before .before .before .before .before .before .before .before .before .before .before .before .before .before .before .before .args .p) (c .before .before .before .before .before .before .before .before .before .before .before .before .before .before .before .before .args .summary .now) (c .before .before .before .before .before .before .before .before .before .before .before .before .before .before .before .before .args .acks .now) (c .before .before .before .before .before .before .before .before .before .before .before .before .before .before .before .before .args .their-summary .now) (c .before .before .before .before .before .before .before .before .before .before .before .before .before .before .before .before .args .their-acks .now) (c .before .before .put-row2 .last .0) false (c .before .before .before .before .before .before .before .before .before .before .if1 .left)
-    (both (c .before .before .before .before .before .before .before .before .before .before .before .before .before .before .before .before .args .t .now) (c .before .before .before .before .before .before .before .before .before .before .before .before .before .before .before .before .args .p) (c .before .before .before .summary-at2 .result) (c .before .before .before .before .before .before .before .before .acks-at2 .result) (c .before .before .before .before .before .before .before .before .before .before .before .before .before .before .before .before .args .summary .now) (c .before .before .before .before .before .before .before .before .before .before .before .before .before .before .before .before .args .acks .now) (c .before .before .before .before .before .before .before .put-row .last .0) (c .before .before .put-row2 .last .0) (c .before .before .before .summary-at2 .ensures) (c .before .before .before .before .before .before .before .before .acks-at2 .ensures) (c .before .before .before .before .before .before .before .put-row .ensures) (c .before .before .put-row2 .ensures))
+    let at-put-row2 = c .before .before in
+    let at-summary-at2 = at-put-row2 .before in
+    let at-put-row = at-summary-at2 .before .before .before .before in
+    let at-acks-at2 = at-put-row .before in
+    let at-if1 = at-acks-at2 .before .before in
+    let start = at-if1 .before .before .before .before .before .before in
+    both (at-if1 .if1 .left) (start .args .t .now) (start .args .p) (at-summary-at2 .summary-at2 .result) (at-acks-at2 .acks-at2 .result)
+    (start .args .sp .now) (start .args .kp .now) (start .args .sq .now) (start .args .kq .now) (at-put-row .put-row .last .0) (at-put-row2 .put-row2 .last .0)
+    (at-summary-at2 .summary-at2 .ensures) (at-acks-at2 .acks-at2 .ensures) (at-put-row .put-row .ensures) (at-put-row2 .put-row2 .ensures)
 
 pub merge-spec : {M : Type 1} → statement M
 merge-spec =

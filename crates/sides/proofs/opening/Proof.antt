@@ -1,4 +1,4 @@
--- `sessions::opening` meets its contract: both rows are the node's with the own entry changed.
+-- `sides::opening` meets its contract: both rows are the node's with the own entry changed.
 use mathlib.Core.Path.{_≡_, ap, ap₂, _∙_}
 use mathlib.Core.List.{List}
 use Prim.Native.Nat.{ℕ, _-_, _≤_, _<_}
@@ -9,26 +9,23 @@ use Rattle.meaning.specs.Rows.{least}
 use Rattle.meaning.specs.Table.{nodesMost, part, node, count, summaryAt, acksAt, Sound}
 use Rattle.meaning.specs.Node.{opened}
 use Rattle.meaning.proofs.PutLaws.{part-part}
-use Rattle.sides.specs.Begun.{begun}
+use Rattle.sides.specs.Begun.{Starts}
 use borrow.Author.Needs.{needs}
 use Rattle.sides.proofs.opening.Statement.{statement}
 use Rattle.sides.proofs.opening.Tie as tie
-use Rattle.sides.proofs.opening.Reads as reads
-use Rattle.sides.proofs.opening.Lts as lts
-use Rattle.layout.proofs.acks_at.Reads as acks-at-reads
-use Rattle.layout.proofs.summary_at.Reads as summary-at-reads
-use Rattle.rows.proofs.row.least_of.Reads as least-of-reads
-use Rattle.sides.proofs.row_with.Reads as row-with-reads
 
 -- the first n entries of a whole row that was changed in one of them
 first : (t w : List ℕ) (at n i v : ℕ) → n ≤ nodesMost → i < n → w ≡ set (part at nodesMost t) i v → take n w ≡ set (part at n t) i v
 first t w at n i v h g e = ap (take n) e ∙ take-set-lt n (part at nodesMost t) i v g ∙ ap (λ (z : List ℕ). set z i v) (part-part at nodesMost n t h)
 
 both :
-    (t : List ℕ) (p n c sa ka low : ℕ) (r k : List ℕ) → Sound t → p < count t → n ≡ count t → sa ≡ summaryAt p → ka ≡ acksAt p → r ≡ set (part sa nodesMost t) p c → low ≡ least (take (n - 0) r) →
-    k ≡ set (part ka nodesMost t) p low → begun (take n r) (take n k) (node t p .log) ≡ opened p c (node t p)
+    (t : List ℕ) (p n c sa ka low : ℕ) (r k : List ℕ) → Sound t × (p < count t) × (n ≡ count t) → sa ≡ summaryAt p → ka ≡ acksAt p →
+    r ≡ set (part sa nodesMost t) p c → low ≡ least (take (n - 0) r) → k ≡ set (part ka nodesMost t) p low → Starts t p n c r k
 unfolding opened node
-both t p n c sa ka low r k s h en es ek er el ef =
+both t p n c sa ka low r k pre es ek er el ef =
+    let s = pre .0 in
+    let h = pre .1 in
+    let en = pre .2 in
     let z : n - 0 ≡ n = omega arith in
     let m : n ≤ nodesMost = let g = s .high in omega arith in
     let a : take n r ≡ set (part (summaryAt p) (count t) t) p c = first t r sa n p c m (omega arith) er ∙ ap₂ (λ (x y : ℕ). set (part x y t) p c) es en in
@@ -70,8 +67,16 @@ same-length-2 c = search needs
 
 returns : tie.Need-returns
 returns c =
-    both (c .before .before .before .before .before .before .before .before .before .before .before .before .before .before .before .before .args .t .now) (c .before .before .before .before .before .before .before .before .before .before .before .before .before .before .before .before .args .p) (c .before .before .before .before .before .before .before .before .before .before .before .before .before .before .before .before .args .n) (c .before .before .before .before .before .before .before .before .before .before .before .before .before .before .before .before .args .reading) (c .before .before .before .before .before .before .before .before .before .before .before .summary-at .result) (c .before .before .before .acks-at .result) (c .before .before .before .before .before .least-of .result) (c .before .before .before .before .before .before .before .before .before .before .row-with .last .0) (c .before .before .row-with2 .last .0)
-    (c .before .before .before .before .before .before .before .before .before .before .before .before .before .before .before .before .pre .2) (c .before .before .before .before .before .before .before .before .before .before .before .before .before .before .before .before .pre .3) (c .before .before .before .before .before .before .before .before .before .before .before .before .before .before .before .before .pre .4) (c .before .before .before .before .before .before .before .before .before .before .before .summary-at .ensures) (c .before .before .before .acks-at .ensures) (c .before .before .before .before .before .before .before .before .before .before .row-with .ensures) (c .before .before .before .before .before .least-of .ensures) (c .before .before .row-with2 .ensures)
+    let at-row-with2 = c .before .before in
+    let at-acks-at = at-row-with2 .before in
+    let at-least-of = at-acks-at .before .before in
+    let at-row-with = at-least-of .before .before .before .before .before in
+    let at-summary-at = at-row-with .before in
+    let start = at-summary-at .before .before .before .before .before in
+    both (start .args .t .now) (start .args .p) (start .args .n) (start .args .reading) (at-summary-at .summary-at .result)
+    (at-acks-at .acks-at .result) (at-least-of .least-of .result) (at-row-with .row-with .last .0) (at-row-with2 .row-with2 .last .0)
+    (start .pre .1) (at-summary-at .summary-at .ensures) (at-acks-at .acks-at .ensures) (at-row-with .row-with .ensures)
+    (at-least-of .least-of .ensures) (at-row-with2 .row-with2 .ensures)
 
 pub opening-spec : {M : Type 1} → statement M
 opening-spec =

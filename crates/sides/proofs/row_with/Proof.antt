@@ -1,4 +1,4 @@
--- `sessions::row_with` meets its contract: the row copied, then one word of it changed.
+-- `sides::row_with` meets its contract: the row copied, then one word of it changed.
 use mathlib.Core.Path.{_≡_, ap, _∙_}
 use mathlib.Core.List.{List}
 use Prim.Native.Nat.{ℕ, _+_, _-_}
@@ -8,9 +8,6 @@ use Rattle.meaning.specs.Table.{part, nodesMost}
 use borrow.Author.Needs.{needs}
 use Rattle.sides.proofs.row_with.Statement.{statement}
 use Rattle.sides.proofs.row_with.Tie as tie
-use Rattle.sides.proofs.row_with.Reads as reads
-use Rattle.sides.proofs.row_with.Lts as lts
-use Rattle.rows.proofs.row.copy_row.Reads as copy-row-reads
 
 changed : (t w : List ℕ) (at i v : ℕ) → w ≡ take ((at + nodesMost) - at) (drop at t) → set w i v ≡ set (part at nodesMost t) i v
 unfolding part
@@ -46,7 +43,10 @@ same-length : tie.Need-same-length
 same-length c = search needs
 
 returns : tie.Need-returns
-returns c = changed (c .before .before .before .before .before .before .before .args .t .now) (c .before .before .copy-row .last .0) (c .before .before .before .before .before .before .before .args .at) (c .before .before .before .before .before .before .before .args .i) (c .before .before .before .before .before .before .before .args .v) (c .before .before .copy-row .ensures)
+returns c =
+    let at-copy-row = c .before .before in
+    let start = at-copy-row .before .before .before .before .before in
+    changed (start .args .t .now) (at-copy-row .copy-row .last .0) (start .args .at) (start .args .i) (start .args .v) (at-copy-row .copy-row .ensures)
 
 pub row-with-spec : {M : Type 1} → statement M
 row-with-spec =

@@ -1,32 +1,23 @@
--- `sessions::take` meets its contract: the newer records behind the last and the held number, or nothing.
+-- `sides::take` meets its contract: the newer records behind the last and the held number, or nothing.
 use mathlib.Core.Path.{_≡_, ap, ap₂, sym, _∙_}
-use mathlib.Core.Bool.{Bool, true, false, _&&_}
+use mathlib.Core.Bool.{Bool, true, false}
 use mathlib.Core.List.{List, [], _∷_}
 use Prim.Native.Nat.{ℕ, _+_, _*_, _≤_, _<_}
 use native.Mathlib.Omega.{arith}
 use borrow.Author.Tests.{not-true, not-false, ltb-false}
 use lib.ListN.{length}
-use lib.Dec.{ltb}
 use Rattle.meaning.specs.declared.Record.{Record}
-use Rattle.meaning.specs.Rows.{newer, records, words}
-use Rattle.meaning.specs.Table.{tableWords, nodesMost, logMost, held, part, place, heldAt, logAt}
+use Rattle.meaning.specs.Rows.{newer, words}
+use Rattle.meaning.specs.Table.{tableWords, nodesMost, logMost, held, place, heldAt, logAt}
 use Rattle.meaning.proofs.PutLaws.{grown-none}
-use Rattle.rows.specs.Carry.{CarriesAll}
-use Rattle.sides.specs.Begun.{came, grown, heldLog, Takes}
-use Rattle.sides.proofs.Meeting.{right-log}
+use Rattle.logs.specs.Carry.{logRecords, CarriesAll, Puts}
+use Rattle.sides.specs.Begun.{crowds, heldLog, Takes, Took}
+use Rattle.sides.proofs.SideLaws.{right-log}
 use borrow.Author.Needs.{needs}
 use Rattle.sides.proofs.take.Statement.{statement}
 use Rattle.sides.proofs.take.Tie as tie
-use Rattle.sides.proofs.take.Reads as reads
-use Rattle.sides.proofs.take.Lts as lts
-use Rattle.layout.proofs.held_at.Reads as held-at-reads
-use Rattle.layout.proofs.log_at.Reads as log-at-reads
-use Rattle.rows.proofs.log.carry.Reads as carry-reads
-use Rattle.rows.proofs.row.put_word.Reads as put-word-reads
 
-module _ (t : List ℕ) (f : Bool) (p q : ℕ) (known : List ℕ) (mh th : ℕ) (s : Takes t p q known mh th)
-    (room : (f && ltb logMost (mh + length (newer known (heldLog t q th)))) ≡ false) where
-  -- the numbers of it
+module _ {t : List ℕ} {f : Bool} {p q : ℕ} {known : List ℕ} {had shown : ℕ} (s : Takes t f p q known had shown) where
   nodes : (p < nodesMost) × (q < nodesMost) × (length t ≡ tableWords)
   nodes =
       let h = s .isSound .high in
@@ -34,24 +25,26 @@ module _ (t : List ℕ) (f : Bool) (p q : ℕ) (known : List ℕ) (mh th : ℕ) 
       let b = s .there in
       (omega arith, omega arith, s .isSound .long)
 
-  most : (mh ≤ logMost) × (th ≤ logMost)
+  most : (had ≤ logMost) × (shown ≤ logMost)
   most =
       let a = s .isSound .room p (s .here) in
       let b = s .isSound .room q (s .there) in
-      let d = s .mineNow in
-      let e = s .theirsMost in
+      let d = s .mine in
+      let e = s .theirs in
       (omega arith, omega arith)
 
-  none : f ≡ false → (mh ≡ mh + length (came f known (heldLog t q th))) × (mh ≤ logMost) × (t ≡ grown p (came f known (heldLog t q th)) t)
+  none : f ≡ false → Took t f p q known had shown had t
   none e =
       let m = most .0 in
-      rw e (omega arith, m, sym (grown-none t (s .isSound) p (s .here)))
+      rw e (record { total = omega arith; most = m; leaves = sym (grown-none t (s .isSound) p (s .here)) })
 
   module _ (on : f ≡ true) where
-    fits : mh + length (newer known (heldLog t q th)) ≤ logMost
-    fits = ltb-false logMost (mh + length (newer known (heldLog t q th))) (ap (λ (b : Bool). b && ltb logMost (mh + length (newer known (heldLog t q th)))) (sym on) ∙ room)
+    fits : had + length (newer known (heldLog t q shown)) ≤ logMost
+    fits =
+        ltb-false logMost (had + length (newer known (heldLog t q shown)))
+        (ap (λ (b : Bool). crowds b known had (heldLog t q shown)) (sym on) ∙ s .room)
 
-    ready : (from to : ℕ) → from ≡ logAt q → to ≡ logAt p → CarriesAll t from th (to + 4 * mh) known
+    ready : (from to : ℕ) → from ≡ logAt q → to ≡ logAt p → CarriesAll t from shown (to + 4 * had) known
     ready from to ef et =
         let o = nodes in
         let l = o .2 in
@@ -63,72 +56,91 @@ module _ (t : List ℕ) (f : Bool) (p q : ℕ) (known : List ℕ) (mh th : ℕ) 
         (record {
           inside = omega arith;
           below = m;
-          known = rw (s .long) (right-log t (s .isSound) q th (s .there) (s .theirsMost));
+          known = rw (s .long) (right-log t (s .isSound) q shown (s .there) (s .theirs));
           fits = omega arith;
           apart = λ x y. s .apart (omega arith);
         })
 
-    bound : (from taken : ℕ) → from ≡ logAt q → taken ≡ length (newer known (records th (part from (4 * logMost) t))) → mh + taken ≤ logMost
-    bound from taken ef et =
-        let x = ap (λ (i : ℕ). length (newer known (records th (part i (4 * logMost) t)))) ef in
+    bound : {at from taken : ℕ} {u : List ℕ} → Puts at (newer known (logRecords from shown t)) t taken u → from ≡ logAt q → had + taken ≤ logMost
+    bound {taken} put ef =
+        let e : taken ≡ length (newer known (heldLog t q shown)) = put .many ∙ ap (λ (i : ℕ). length (newer known (logRecords i shown t))) ef in
         let h = fits in
         omega arith
 
     whole :
-        (from to hp taken : ℕ) (u v : List ℕ) → from ≡ logAt q → to ≡ logAt p → hp ≡ heldAt p → taken ≡ length (newer known (records th (part from (4 * logMost) t))) →
-        u ≡ place (to + 4 * mh) (words (newer known (records th (part from (4 * logMost) t)))) t → v ≡ place hp ((mh + taken) ∷ []) u →
-        (mh + taken ≡ mh + length (came f known (heldLog t q th))) × (mh + taken ≤ logMost) × (v ≡ grown p (came f known (heldLog t q th)) t)
-    whole from to hp taken u v ef et eh en eu ev =
-        let x : newer known (records th (part from (4 * logMost) t)) ≡ newer known (heldLog t q th) = ap (λ (i : ℕ). newer known (records th (part i (4 * logMost) t))) ef in
-        let n : taken ≡ length (newer known (heldLog t q th)) = en ∙ ap length x in
-        let y : to + 4 * mh ≡ logAt p + 4 * held t p = ap₂ (λ (a b : ℕ). a + 4 * b) et (s .mineNow) in
-        let a : u ≡ place (logAt p + 4 * held t p) (words (newer known (heldLog t q th))) t = eu ∙ ap₂ (λ (i : ℕ) (rs : List Record). place i (words rs) t) y x in
-        let j : mh + taken ≡ held t p + length (newer known (heldLog t q th)) = ap₂ _+_ (s .mineNow) n in
-        let b : v ≡ place (heldAt p) ((held t p + length (newer known (heldLog t q th))) ∷ []) (place (logAt p + 4 * held t p) (words (newer known (heldLog t q th))) t) =
-        ev ∙ ap₂ (λ (i : ℕ) (z : List ℕ). place i ((mh + taken) ∷ []) z) eh a ∙
-        ap (λ (i : ℕ). place (heldAt p) (i ∷ []) (place (logAt p + 4 * held t p) (words (newer known (heldLog t q th))) t)) j
+        {to from taken : ℕ} {u : List ℕ} → Puts (to + 4 * had) (newer known (logRecords from shown t)) t taken u → from ≡ logAt q → to ≡ logAt p →
+        (at : ℕ) (v : List ℕ) → at ≡ heldAt p → v ≡ place at ((had + taken) ∷ []) u → Took t f p q known had shown (had + taken) v
+    whole {to} {from} {taken} {u} put ef et at v ea ev =
+        let new : List Record = newer known (heldLog t q shown) in
+        let same : newer known (logRecords from shown t) ≡ new = ap (λ (i : ℕ). newer known (logRecords i shown t)) ef in
+        let many : taken ≡ length new = put .many ∙ ap length same in
+        let behind : to + 4 * had ≡ logAt p + 4 * held t p = ap₂ (λ (a b : ℕ). a + 4 * b) et (s .mine) in
+        let log : u ≡ place (logAt p + 4 * held t p) (words new) t =
+        put .leaves ∙ ap₂ (λ (i : ℕ) (rs : List Record). place i (words rs) t) behind same
         in
-        let h = fits in
-        rw on (ap (λ (i : ℕ). mh + i) n, omega arith, b)
+        let number : had + taken ≡ held t p + length new = ap₂ _+_ (s .mine) many in
+        let h = bound put ef in
+        rw on
+        (record {
+          total = ap (λ (i : ℕ). had + i) many;
+          most = h;
+          leaves =
+              ev ∙ ap₂ (λ (i : ℕ) (z : List ℕ). place i ((had + taken) ∷ []) z) ea log ∙
+              ap (λ (i : ℕ). place (heldAt p) (i ∷ []) (place (logAt p + 4 * held t p) (words new) t)) number;
+        })
 
 returns : tie.Need-returns
-returns c = none (c .before .before .before .args .t .now) (c .before .before .before .args .finishes) (c .before .before .before .args .p) (c .before .before .before .args .q) (c .before .before .before .args .known .now) (c .before .before .before .args .mine-held) (c .before .before .before .args .theirs-held) (c .before .before .before .pre .0) (c .before .before .before .pre .1) (not-true (c .before .before .before .args .finishes) (c .if1 .taken))
+returns c =
+    let start = c .before .before .before in
+    none (start .pre) (not-true (start .args .finishes) (c .if1 .taken))
 
 log-at-requires : tie.Need-log-at-requires
 log-at-requires c κs = search needs
 
 mul-to : tie.Need-mul-to
 mul-to c =
-    let m = most (c .before .before .before .before .args .t .now) (c .before .before .before .before .args .finishes) (c .before .before .before .before .args .p) (c .before .before .before .before .args .q) (c .before .before .before .before .args .known .now) (c .before .before .before .before .args .mine-held) (c .before .before .before .before .args .theirs-held) (c .before .before .before .before .pre .0) (c .before .before .before .before .pre .1) in
-    let g = m .0 in
+    let start = c .before .before .before .before in
+    let few = most (start .pre) .0 in
     omega arith
 
 add-to : tie.Need-add-to
 add-to c =
-    let m = most (c .before .before .before .before .args .t .now) (c .before .before .before .before .args .finishes) (c .before .before .before .before .args .p) (c .before .before .before .before .args .q) (c .before .before .before .before .args .known .now) (c .before .before .before .before .args .mine-held) (c .before .before .before .before .args .theirs-held) (c .before .before .before .before .pre .0) (c .before .before .before .before .pre .1) in
-    let g = m .0 in
-    let o = nodes (c .before .before .before .before .args .t .now) (c .before .before .before .before .args .finishes) (c .before .before .before .before .args .p) (c .before .before .before .before .args .q) (c .before .before .before .before .args .known .now) (c .before .before .before .before .args .mine-held) (c .before .before .before .before .args .theirs-held) (c .before .before .before .before .pre .0) (c .before .before .before .before .pre .1) in
-    let b = o .0 in
-    let e : c .log-at .result ≡ logAt (c .before .before .before .before .args .p) = c .log-at .ensures in
+    let start = c .before .before .before .before in
+    let few = most (start .pre) .0 in
+    let here = nodes (start .pre) .0 in
+    let at : c .log-at .result ≡ logAt (start .args .p) = c .log-at .ensures in
     omega arith
 
 log-at-requires-2 : tie.Need-log-at-requires-2
 log-at-requires-2 c κs = search needs
 
 carry-requires : tie.Need-carry-requires
-carry-requires c κs = ready (c .before .before .before .before .before .before .args .t .now) (c .before .before .before .before .before .before .args .finishes) (c .before .before .before .before .before .before .args .p) (c .before .before .before .before .before .before .args .q) (c .before .before .before .before .before .before .args .known .now) (c .before .before .before .before .before .before .args .mine-held) (c .before .before .before .before .before .before .args .theirs-held) (c .before .before .before .before .before .before .pre .0) (c .before .before .before .before .before .before .pre .1) (not-false (c .before .before .before .before .before .before .args .finishes) (c .before .before .before .if1 .left)) (c .log-at2 .result) (c .before .before .log-at .result) (c .log-at2 .ensures) (c .before .before .log-at .ensures)
+carry-requires c κs =
+    let at-log-at = c .before .before in
+    let at-if1 = at-log-at .before in
+    let start = at-if1 .before .before .before in
+    ready (start .pre) (not-false (start .args .finishes) (at-if1 .if1 .left)) (c .log-at2 .result) (at-log-at .log-at .result) (c .log-at2 .ensures)
+    (at-log-at .log-at .ensures)
 
 held-at-requires : tie.Need-held-at-requires
 held-at-requires c κs = search needs
 
 add-put-word : tie.Need-add-put-word
 add-put-word c =
-    let b = bound (c .before .before .before .before .before .before .before .before .before .before .before .args .t .now) (c .before .before .before .before .before .before .before .before .before .before .before .args .finishes) (c .before .before .before .before .before .before .before .before .before .before .before .args .p) (c .before .before .before .before .before .before .before .before .before .before .before .args .q) (c .before .before .before .before .before .before .before .before .before .before .before .args .known .now) (c .before .before .before .before .before .before .before .before .before .before .before .args .mine-held) (c .before .before .before .before .before .before .before .before .before .before .before .args .theirs-held) (c .before .before .before .before .before .before .before .before .before .before .before .pre .0) (c .before .before .before .before .before .before .before .before .before .before .before .pre .1) (not-false (c .before .before .before .before .before .before .before .before .before .before .before .args .finishes) (c .before .before .before .before .before .before .before .before .if1 .left)) (c .before .before .before .before .before .log-at2 .result) (c .before .before .before .before .carry .result) (c .before .before .before .before .before .log-at2 .ensures) (c .before .before .before .before .carry .ensures .0) in
+    let at-carry = c .before .before .before .before in
+    let at-log-at2 = at-carry .before in
+    let at-if1 = at-log-at2 .before .before .before in
+    let start = at-if1 .before .before .before in
+    let fits = bound (start .pre) (not-false (start .args .finishes) (at-if1 .if1 .left)) (at-carry .carry .ensures) (at-log-at2 .log-at2 .ensures) in
     omega arith
 
 cast-put-word : tie.Need-cast-put-word
 cast-put-word c =
-    let b = bound (c .before .before .before .before .before .before .before .before .before .before .before .args .t .now) (c .before .before .before .before .before .before .before .before .before .before .before .args .finishes) (c .before .before .before .before .before .before .before .before .before .before .before .args .p) (c .before .before .before .before .before .before .before .before .before .before .before .args .q) (c .before .before .before .before .before .before .before .before .before .before .before .args .known .now) (c .before .before .before .before .before .before .before .before .before .before .before .args .mine-held) (c .before .before .before .before .before .before .before .before .before .before .before .args .theirs-held) (c .before .before .before .before .before .before .before .before .before .before .before .pre .0) (c .before .before .before .before .before .before .before .before .before .before .before .pre .1) (not-false (c .before .before .before .before .before .before .before .before .before .before .before .args .finishes) (c .before .before .before .before .before .before .before .before .if1 .left)) (c .before .before .before .before .before .log-at2 .result) (c .before .before .before .before .carry .result) (c .before .before .before .before .before .log-at2 .ensures) (c .before .before .before .before .carry .ensures .0) in
+    let at-carry = c .before .before .before .before in
+    let at-log-at2 = at-carry .before in
+    let at-if1 = at-log-at2 .before .before .before in
+    let start = at-if1 .before .before .before in
+    let fits = bound (start .pre) (not-false (start .args .finishes) (at-if1 .if1 .left)) (at-carry .carry .ensures) (at-log-at2 .log-at2 .ensures) in
     omega arith
 
 put-word-requires : tie.Need-put-word-requires
@@ -136,10 +148,11 @@ put-word-requires c κs = search needs
 
 add-result : tie.Need-add-result
 add-result c =
-    let m = most (c .before .before .before .before .before .before .before .before .before .before .before .before .before .before .args .t .now) (c .before .before .before .before .before .before .before .before .before .before .before .before .before .before .args .finishes) (c .before .before .before .before .before .before .before .before .before .before .before .before .before .before .args .p) (c .before .before .before .before .before .before .before .before .before .before .before .before .before .before .args .q) (c .before .before .before .before .before .before .before .before .before .before .before .before .before .before .args .known .now) (c .before .before .before .before .before .before .before .before .before .before .before .before .before .before .args .mine-held) (c .before .before .before .before .before .before .before .before .before .before .before .before .before .before .args .theirs-held) (c .before .before .before .before .before .before .before .before .before .before .before .before .before .before .pre .0) (c .before .before .before .before .before .before .before .before .before .before .before .before .before .before .pre .1) in
-    let x = m .0 in
-    let y = m .1 in
-    let b = bound (c .before .before .before .before .before .before .before .before .before .before .before .before .before .before .args .t .now) (c .before .before .before .before .before .before .before .before .before .before .before .before .before .before .args .finishes) (c .before .before .before .before .before .before .before .before .before .before .before .before .before .before .args .p) (c .before .before .before .before .before .before .before .before .before .before .before .before .before .before .args .q) (c .before .before .before .before .before .before .before .before .before .before .before .before .before .before .args .known .now) (c .before .before .before .before .before .before .before .before .before .before .before .before .before .before .args .mine-held) (c .before .before .before .before .before .before .before .before .before .before .before .before .before .before .args .theirs-held) (c .before .before .before .before .before .before .before .before .before .before .before .before .before .before .pre .0) (c .before .before .before .before .before .before .before .before .before .before .before .before .before .before .pre .1) (not-false (c .before .before .before .before .before .before .before .before .before .before .before .before .before .before .args .finishes) (c .before .before .before .before .before .before .before .before .before .before .before .if1 .left)) (c .before .before .before .before .before .before .before .before .log-at2 .result) (c .before .before .before .before .before .before .before .carry .result) (c .before .before .before .before .before .before .before .before .log-at2 .ensures) (c .before .before .before .before .before .before .before .carry .ensures .0) in
+    let at-carry = c .before .before .before .before .before .before .before in
+    let at-log-at2 = at-carry .before in
+    let at-if1 = at-log-at2 .before .before .before in
+    let start = at-if1 .before .before .before in
+    let fits = bound (start .pre) (not-false (start .args .finishes) (at-if1 .if1 .left)) (at-carry .carry .ensures) (at-log-at2 .log-at2 .ensures) in
     omega arith
 
 same-length : tie.Need-same-length
@@ -147,8 +160,16 @@ same-length c = search needs
 
 returns-2 : tie.Need-returns-2
 returns-2 c =
-    whole (c .before .before .before .before .before .before .before .before .before .before .before .before .before .before .args .t .now) (c .before .before .before .before .before .before .before .before .before .before .before .before .before .before .args .finishes) (c .before .before .before .before .before .before .before .before .before .before .before .before .before .before .args .p) (c .before .before .before .before .before .before .before .before .before .before .before .before .before .before .args .q) (c .before .before .before .before .before .before .before .before .before .before .before .before .before .before .args .known .now) (c .before .before .before .before .before .before .before .before .before .before .before .before .before .before .args .mine-held) (c .before .before .before .before .before .before .before .before .before .before .before .before .before .before .args .theirs-held) (c .before .before .before .before .before .before .before .before .before .before .before .before .before .before .pre .0) (c .before .before .before .before .before .before .before .before .before .before .before .before .before .before .pre .1) (not-false (c .before .before .before .before .before .before .before .before .before .before .before .before .before .before .args .finishes) (c .before .before .before .before .before .before .before .before .before .before .before .if1 .left)) (c .before .before .before .before .before .before .before .before .log-at2 .result) (c .before .before .before .before .before .before .before .before .before .before .log-at .result) (c .before .before .before .held-at .result) (c .before .before .before .before .before .before .before .carry .result) (c .before .before .before .before .before .before .before .carry .last .0) (c .before .before .put-word .last .0)
-    (c .before .before .before .before .before .before .before .before .log-at2 .ensures) (c .before .before .before .before .before .before .before .before .before .before .log-at .ensures) (c .before .before .before .held-at .ensures) (c .before .before .before .before .before .before .before .carry .ensures .0) (c .before .before .before .before .before .before .before .carry .ensures .1) (c .before .before .put-word .ensures)
+    let at-put-word = c .before .before in
+    let at-held-at = at-put-word .before in
+    let at-carry = at-held-at .before .before .before .before in
+    let at-log-at2 = at-carry .before in
+    let at-log-at = at-log-at2 .before .before in
+    let at-if1 = at-log-at .before in
+    let start = at-if1 .before .before .before in
+    whole (start .pre) (not-false (start .args .finishes) (at-if1 .if1 .left)) (at-carry .carry .ensures) (at-log-at2 .log-at2 .ensures)
+    (at-log-at .log-at .ensures) (at-held-at .held-at .result) (at-put-word .put-word .last .0) (at-held-at .held-at .ensures)
+    (at-put-word .put-word .ensures)
 
 pub take-spec : {M : Type 1} → statement M
 take-spec =

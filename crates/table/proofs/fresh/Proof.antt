@@ -12,10 +12,6 @@ use Rattle.meaning.proofs.TableLaws.{fresh-count-wrong, fresh-length-wrong, fre
 use borrow.Author.Needs.{needs}
 use Rattle.table.proofs.fresh.Statement.{statement}
 use Rattle.table.proofs.fresh.Tie as tie
-use Rattle.table.proofs.fresh.Reads as reads
-use Rattle.table.proofs.fresh.Lts as lts
-use Rattle.rows.proofs.row.clear.Reads as clear-reads
-use Rattle.rows.proofs.row.put_word.Reads as put-word-reads
 
 module _ (t : List ℕ) (n : ℕ) where
   Right : ℕ → List ℕ → Type 0
@@ -48,11 +44,15 @@ returns c = few (c .before .before .args .t .now) (c .before .before .args .n) (
 
 returns-2 : tie.Need-returns-2
 unfolding Right
-returns-2 c = many (c .before .before .before .args .t .now) (c .before .before .before .args .n) (c .if2 .taken)
+returns-2 c =
+    let start = c .before .before .before in
+    many (start .args .t .now) (start .args .n) (c .if2 .taken)
 
 returns-3 : tie.Need-returns-3
 unfolding Right
-returns-3 c = wrong (c .before .before .before .before .args .t .now) (c .before .before .before .before .args .n) (c .if3 .taken)
+returns-3 c =
+    let start = c .before .before .before .before in
+    wrong (start .args .t .now) (start .args .n) (c .if3 .taken)
 
 clear-requires : tie.Need-clear-requires
 clear-requires c κs = search needs
@@ -65,7 +65,15 @@ same-length c = search needs
 
 returns-4 : tie.Need-returns-4
 unfolding Right
-returns-4 c = made (c .before .before .before .before .before .before .before .before .before .before .before .before .args .t .now) (c .before .before .before .before .before .before .before .before .before .before .before .before .args .n) (c .before .before .before .before .before .before .before .before .before .before .if1 .left) (c .before .before .before .before .before .before .before .before .before .if2 .left) (c .before .before .before .before .before .before .before .before .if3 .left) (c .before .before .before .before .before .before .clear .last .0) (c .before .before .put-word .last .0) (c .before .before .before .before .before .before .clear .ensures) (c .before .before .put-word .ensures)
+returns-4 c =
+    let at-put-word = c .before .before in
+    let at-clear = at-put-word .before .before .before .before in
+    let at-if3 = at-clear .before .before in
+    let at-if2 = at-if3 .before in
+    let at-if1 = at-if2 .before in
+    let start = at-if1 .before .before in
+    made (start .args .t .now) (start .args .n) (at-if1 .if1 .left) (at-if2 .if2 .left) (at-if3 .if3 .left) (at-clear .clear .last .0)
+    (at-put-word .put-word .last .0) (at-clear .clear .ensures) (at-put-word .put-word .ensures)
 
 pub fresh-spec : {M : Type 1} → statement M
 fresh-spec =

@@ -11,13 +11,6 @@ use Rattle.meaning.proofs.PutLaws.{write-put}
 use borrow.Author.Needs.{needs}
 use Rattle.writes.proofs.append.Statement.{statement}
 use Rattle.writes.proofs.append.Tie as tie
-use Rattle.writes.proofs.append.Reads as reads
-use Rattle.writes.proofs.append.Lts as lts
-use Rattle.layout.proofs.held_at.Reads as held-at-reads
-use Rattle.layout.proofs.log_at.Reads as log-at-reads
-use Rattle.layout.proofs.summary_at.Reads as summary-at-reads
-use Rattle.rows.proofs.log.put_record.Reads as put-record-reads
-use Rattle.rows.proofs.row.put_word.Reads as put-word-reads
 
 whole :
     (t : List ℕ) (s : Sound t) (p : ℕ) (h : p < count t) (k : ℕ) (r : Record) (at₁ at₂ at₃ : ℕ) (u v w : List ℕ) →
@@ -25,11 +18,16 @@ whole :
     u ≡ place (at₁ + 4 * k) (words (r ∷ [])) t → v ≡ place at₂ ((k + 1) ∷ []) u → w ≡ place (at₃ + p) (r .timestamp ∷ []) v →
     w ≡ putNode p (wrote p (r .timestamp) (r .block) (r .verdict) (node t p)) t
 whole t s p h k r at₁ at₂ at₃ u v w ek below eo e₁ e₂ e₃ eu ev ew =
-    let r′ : r ≡ record { origin = p; timestamp = r .timestamp; block = r .block; verdict = r .verdict } = λ i. record { origin = eo i; timestamp = r .timestamp; block = r .block; verdict = r .verdict } in
-    let f : w ≡ place (summaryAt p + p) (r .timestamp ∷ []) (place (heldAt p) ((held t p + 1) ∷ []) (place (logAt p + 4 * held t p) (words (record { origin = p; timestamp = r .timestamp; block = r .block; verdict = r .verdict } ∷ [])) t)) =
+    let r′ : r ≡ record { origin = p; timestamp = r .timestamp; block = r .block; verdict = r .verdict } =
+    λ i. record { origin = eo i; timestamp = r .timestamp; block = r .block; verdict = r .verdict }
+    in
+    let f : w ≡ place (summaryAt p + p) (r .timestamp ∷ [])
+    (place (heldAt p) ((held t p + 1) ∷ [])
+    (place (logAt p + 4 * held t p) (words (record { origin = p; timestamp = r .timestamp; block = r .block; verdict = r .verdict } ∷ [])) t)) =
     ew ∙ ap₂ (λ (a : ℕ) (x : List ℕ). place (a + p) (r .timestamp ∷ []) x) e₃
     (ev ∙ ap₂ (λ (a m : ℕ). place a ((m + 1) ∷ []) u) e₂ ek ∙
-    ap (place (heldAt p) ((held t p + 1) ∷ [])) (eu ∙ ap₂ (λ (a m : ℕ). place (a + 4 * m) (words (r ∷ [])) t) e₁ ek ∙ ap (λ (x : Record). place (logAt p + 4 * held t p) (words (x ∷ [])) t) r′))
+    ap (place (heldAt p) ((held t p + 1) ∷ []))
+    (eu ∙ ap₂ (λ (a m : ℕ). place (a + 4 * m) (words (r ∷ [])) t) e₁ ek ∙ ap (λ (x : Record). place (logAt p + 4 * held t p) (words (x ∷ [])) t) r′))
     in
     f ∙ write-put t s p h (r .timestamp) (r .block) (r .verdict) (omega arith)
 
@@ -71,9 +69,18 @@ same-length c = search needs
 
 returns : tie.Need-returns
 returns c =
-    whole (c .before .before .before .before .before .before .before .before .before .before .before .before .before .before .before .before .args .t .now) (c .before .before .before .before .before .before .before .before .before .before .before .before .before .before .before .before .pre .0) (c .before .before .before .before .before .before .before .before .before .before .before .before .before .before .before .before .args .p) (c .before .before .before .before .before .before .before .before .before .before .before .before .before .before .before .before .pre .1) (c .before .before .before .before .before .before .before .before .before .before .before .before .before .before .before .before .args .held) (c .before .before .before .before .before .before .before .before .before .before .before .before .before .before .before .before .args .r) (c .before .before .before .before .before .before .before .before .before .before .before .before .before .log-at .result) (c .before .before .before .before .before .before .before .before .held-at .result) (c .before .before .before .summary-at .result)
-    (c .before .before .before .before .before .before .before .before .before .before .before .before .put-record .last .0) (c .before .before .before .before .before .before .before .put-word .last .0) (c .before .before .put-word2 .last .0)
-    (c .before .before .before .before .before .before .before .before .before .before .before .before .before .before .before .before .pre .2) (c .before .before .before .before .before .before .before .before .before .before .before .before .before .before .before .before .pre .3) (c .before .before .before .before .before .before .before .before .before .before .before .before .before .before .before .before .pre .4) (c .before .before .before .before .before .before .before .before .before .before .before .before .before .log-at .ensures) (c .before .before .before .before .before .before .before .before .held-at .ensures) (c .before .before .before .summary-at .ensures) (c .before .before .before .before .before .before .before .before .before .before .before .before .put-record .ensures) (c .before .before .before .before .before .before .before .put-word .ensures) (c .before .before .put-word2 .ensures)
+    let at-put-word2 = c .before .before in
+    let at-summary-at = at-put-word2 .before in
+    let at-put-word = at-summary-at .before .before .before .before in
+    let at-held-at = at-put-word .before in
+    let at-put-record = at-held-at .before .before .before .before in
+    let at-log-at = at-put-record .before in
+    let start = at-log-at .before .before .before in
+    whole (start .args .t .now) (start .pre .0) (start .args .p) (start .pre .1) (start .args .held) (start .args .r) (at-log-at .log-at .result)
+    (at-held-at .held-at .result) (at-summary-at .summary-at .result)
+    (at-put-record .put-record .last .0) (at-put-word .put-word .last .0) (at-put-word2 .put-word2 .last .0)
+    (start .pre .2) (start .pre .3) (start .pre .4) (at-log-at .log-at .ensures) (at-held-at .held-at .ensures) (at-summary-at .summary-at .ensures)
+    (at-put-record .put-record .ensures) (at-put-word .put-word .ensures) (at-put-word2 .put-word2 .ensures)
 
 pub append-spec : {M : Type 1} → statement M
 append-spec =

@@ -1,42 +1,37 @@
 -- `writes::write` meets its contract: each refusal by its test, and else the node put.
-use mathlib.Core.Path.{_≡_, sym, ap, ap₂, _∙_, refl}
-use mathlib.Core.Bool.{true, false}
-use Prim.Native.Nat.{ℕ, _+_, _*_, _≤_, _<_}
+use mathlib.Core.Path.{_≡_, _∙_, refl}
+use Prim.Native.Nat.{ℕ, _≤_, _<_}
 use native.Mathlib.Omega.{arith}
-use mathlib.Core.List.{List, [], _∷_}
+use mathlib.Core.List.{List}
 use lib.ListN.{length}
-use Rattle.meaning.specs.declared.Reply.{Reply}
 use Rattle.meaning.specs.declared.Reply.the-variants.{Written, Refused}
-use Rattle.meaning.specs.declared.Action.{Action}
 use Rattle.meaning.specs.declared.Action.the-variants.{Write}
 use Rattle.meaning.specs.Table.{count, held, node, putNode, logMost, Sound}
 use Rattle.meaning.specs.Node.{own, wrote}
-use Rattle.meaning.specs.Steps.{refusal, reply, after, acted, reported}
+use Rattle.meaning.specs.Steps.{acted, reported}
 use Rattle.meaning.proofs.TableLaws.{held-log}
 use Rattle.meaning.proofs.StepLaws.{write-is-3, write-is-5, write-is-6, write-is-0, refuse, accept}
+use Rattle.looks.specs.Applied.{Applied}
 use borrow.Author.Needs.{needs}
 use Rattle.writes.proofs.write.Statement.{statement}
 use Rattle.writes.proofs.write.Tie as tie
-use Rattle.writes.proofs.write.Reads as reads
-use Rattle.writes.proofs.write.Lts as lts
-use Rattle.looks.proofs.held_of.Reads as held-of-reads
-use Rattle.looks.proofs.nodes_of.Reads as nodes-of-reads
-use Rattle.looks.proofs.own_of.Reads as own-of-reads
-use Rattle.writes.proofs.append.Reads as append-reads
 
 module _ (t : List ℕ) (s : Sound t) (p c b v : ℕ) where
-  absent : (n : ℕ) → n ≡ count t → n ≤ p → (Refused 3 ≡ reply t (Write p c b v)) × (t ≡ after t (Write p c b v))
+  absent : (n : ℕ) → n ≡ count t → n ≤ p → Applied t (Write p c b v) (Refused 3) t
   absent n e h = refuse t (Write p c b v) 2 (write-is-3 t s p c b v (omega arith))
 
-  back : (n o : ℕ) → n ≡ count t → p < n → o ≡ own p (node t p) → c ≤ o → (Refused 5 ≡ reply t (Write p c b v)) × (t ≡ after t (Write p c b v))
+  back : (n o : ℕ) → n ≡ count t → p < n → o ≡ own p (node t p) → c ≤ o → Applied t (Write p c b v) (Refused 5) t
   back n o e h f g = refuse t (Write p c b v) 4 (write-is-5 t s p c b v (omega arith) (omega arith))
 
-  full : (n o k : ℕ) → n ≡ count t → p < n → o ≡ own p (node t p) → o < c → k ≡ held t p → logMost ≤ k → (Refused 6 ≡ reply t (Write p c b v)) × (t ≡ after t (Write p c b v))
+  full :
+      (n o k : ℕ) → n ≡ count t → p < n → o ≡ own p (node t p) → o < c → k ≡ held t p → logMost ≤ k → Applied t (Write p c b v) (Refused 6) t
   full n o k e h f g ek w =
       let l = held-log t p in
       refuse t (Write p c b v) 5 (write-is-6 t s p c b v (omega arith) (omega arith) (omega arith))
 
-  done : (n o k : ℕ) (u : List ℕ) → n ≡ count t → p < n → o ≡ own p (node t p) → o < c → k ≡ held t p → k < logMost → u ≡ putNode p (wrote p c b v (node t p)) t → (Written ≡ reply t (Write p c b v)) × (u ≡ after t (Write p c b v))
+  done :
+      (n o k : ℕ) (u : List ℕ) → n ≡ count t → p < n → o ≡ own p (node t p) → o < c → k ≡ held t p → k < logMost →
+      u ≡ putNode p (wrote p c b v (node t p)) t → Applied t (Write p c b v) Written u
   unfolding reported acted
   done n o k u e h f g ek w eu =
       let l = held-log t p in
@@ -46,6 +41,12 @@ module _ (t : List ℕ) (s : Sound t) (p c b v : ℕ) where
 within : (t : List ℕ) (p n : ℕ) → n ≡ count t → p < n → p < count t
 within t p n e h = omega arith
 
+-- what `append` asks
+ready :
+    (t : List ℕ) → Sound t → (p n k : ℕ) → n ≡ count t → p < n → k ≡ held t p → k < logMost →
+    Sound t × (p < count t) × (k ≡ held t p) × (k < logMost) × (p ≡ p)
+ready t s p n k e h ek w = (s, within t p n e h, ek, w, refl)
+
 nodes-of-requires : tie.Need-nodes-of-requires
 nodes-of-requires c κs = search needs
 
@@ -53,34 +54,81 @@ same-length : tie.Need-same-length
 same-length c = refl
 
 returns : tie.Need-returns
-returns c = absent (c .before .before .before .before .args .t .now) (c .before .before .before .before .pre) (c .before .before .before .before .args .node) (c .before .before .before .before .args .timestamp) (c .before .before .before .before .args .block) (c .before .before .before .before .args .verdict) (c .before .nodes-of .result) (c .before .nodes-of .ensures .0) (c .if1 .taken)
+returns c =
+    let at-nodes-of = c .before in
+    let start = at-nodes-of .before .before .before in
+    absent (start .args .t .now) (start .pre) (start .args .node) (start .args .timestamp) (start .args .block) (start .args .verdict)
+    (at-nodes-of .nodes-of .result) (at-nodes-of .nodes-of .ensures .0) (c .if1 .taken)
 
 own-of-requires : tie.Need-own-of-requires
-own-of-requires c κs = (c .before .before .before .before .before .pre, within (c .before .before .before .before .before .args .t .now) (c .before .before .before .before .before .args .node) (c .before .before .nodes-of .result) (c .before .before .nodes-of .ensures .0) (c .before .if1 .left))
+own-of-requires c κs =
+    let at-if1 = c .before in
+    let at-nodes-of = at-if1 .before in
+    let start = at-nodes-of .before .before .before in
+    (start .pre, within (start .args .t .now) (start .args .node) (at-nodes-of .nodes-of .result) (at-nodes-of .nodes-of .ensures .0) (at-if1 .if1 .left))
 
 same-length-2 : tie.Need-same-length-2
 same-length-2 c = refl
 
 returns-2 : tie.Need-returns-2
-returns-2 c = back (c .before .before .before .before .before .before .before .args .t .now) (c .before .before .before .before .before .before .before .pre) (c .before .before .before .before .before .before .before .args .node) (c .before .before .before .before .before .before .before .args .timestamp) (c .before .before .before .before .before .before .before .args .block) (c .before .before .before .before .before .before .before .args .verdict) (c .before .before .before .before .nodes-of .result) (c .before .own-of .result) (c .before .before .before .before .nodes-of .ensures .0) (c .before .before .before .if1 .left) (c .before .own-of .ensures) (c .if2 .taken)
+returns-2 c =
+    let at-own-of = c .before in
+    let at-if1 = at-own-of .before .before in
+    let at-nodes-of = at-if1 .before in
+    let start = at-nodes-of .before .before .before in
+    back (start .args .t .now) (start .pre) (start .args .node) (start .args .timestamp) (start .args .block) (start .args .verdict)
+    (at-nodes-of .nodes-of .result) (at-own-of .own-of .result) (at-nodes-of .nodes-of .ensures .0) (at-if1 .if1 .left) (at-own-of .own-of .ensures)
+    (c .if2 .taken)
 
 held-of-requires : tie.Need-held-of-requires
-held-of-requires c κs = (c .before .before .before .before .before .before .before .before .pre, within (c .before .before .before .before .before .before .before .before .args .t .now) (c .before .before .before .before .before .before .before .before .args .node) (c .before .before .before .before .before .nodes-of .result) (c .before .before .before .before .before .nodes-of .ensures .0) (c .before .before .before .before .if1 .left))
+held-of-requires c κs =
+    let at-if1 = c .before .before .before .before in
+    let at-nodes-of = at-if1 .before in
+    let start = at-nodes-of .before .before .before in
+    (start .pre, within (start .args .t .now) (start .args .node) (at-nodes-of .nodes-of .result) (at-nodes-of .nodes-of .ensures .0) (at-if1 .if1 .left))
 
 same-length-3 : tie.Need-same-length-3
 same-length-3 c = refl
 
 returns-3 : tie.Need-returns-3
-returns-3 c = full (c .before .before .before .before .before .before .before .before .before .before .args .t .now) (c .before .before .before .before .before .before .before .before .before .before .pre) (c .before .before .before .before .before .before .before .before .before .before .args .node) (c .before .before .before .before .before .before .before .before .before .before .args .timestamp) (c .before .before .before .before .before .before .before .before .before .before .args .block) (c .before .before .before .before .before .before .before .before .before .before .args .verdict) (c .before .before .before .before .before .before .before .nodes-of .result) (c .before .before .before .before .own-of .result) (c .before .held-of .result) (c .before .before .before .before .before .before .before .nodes-of .ensures .0) (c .before .before .before .before .before .before .if1 .left) (c .before .before .before .before .own-of .ensures) (c .before .before .before .if2 .left) (c .before .held-of .ensures .0) (c .if3 .taken)
+returns-3 c =
+    let at-held-of = c .before in
+    let at-if2 = at-held-of .before .before in
+    let at-own-of = at-if2 .before in
+    let at-if1 = at-own-of .before .before in
+    let at-nodes-of = at-if1 .before in
+    let start = at-nodes-of .before .before .before in
+    full (start .args .t .now) (start .pre) (start .args .node) (start .args .timestamp) (start .args .block) (start .args .verdict)
+    (at-nodes-of .nodes-of .result) (at-own-of .own-of .result) (at-held-of .held-of .result) (at-nodes-of .nodes-of .ensures .0) (at-if1 .if1 .left)
+    (at-own-of .own-of .ensures) (at-if2 .if2 .left) (at-held-of .held-of .ensures .0) (c .if3 .taken)
 
 append-requires : tie.Need-append-requires
-append-requires c κs = (c .before .before .before .before .before .before .before .before .before .before .before .pre, within (c .before .before .before .before .before .before .before .before .before .before .before .args .t .now) (c .before .before .before .before .before .before .before .before .before .before .before .args .node) (c .before .before .before .before .before .before .before .before .nodes-of .result) (c .before .before .before .before .before .before .before .before .nodes-of .ensures .0) (c .before .before .before .before .before .before .before .if1 .left), c .before .before .held-of .ensures .0, c .before .if3 .left, refl)
+append-requires c κs =
+    let at-if3 = c .before in
+    let at-held-of = at-if3 .before in
+    let at-if1 = at-held-of .before .before .before .before .before in
+    let at-nodes-of = at-if1 .before in
+    let start = at-nodes-of .before .before .before in
+    ready (start .args .t .now) (start .pre) (start .args .node) (at-nodes-of .nodes-of .result) (at-held-of .held-of .result)
+    (at-nodes-of .nodes-of .ensures .0) (at-if1 .if1 .left) (at-held-of .held-of .ensures .0) (at-if3 .if3 .left)
 
 same-length-4 : tie.Need-same-length-4
 same-length-4 c = c .before .before .append .kept .0
 
 returns-4 : tie.Need-returns-4
-returns-4 c = done (c .before .before .before .before .before .before .before .before .before .before .before .before .before .before .args .t .now) (c .before .before .before .before .before .before .before .before .before .before .before .before .before .before .pre) (c .before .before .before .before .before .before .before .before .before .before .before .before .before .before .args .node) (c .before .before .before .before .before .before .before .before .before .before .before .before .before .before .args .timestamp) (c .before .before .before .before .before .before .before .before .before .before .before .before .before .before .args .block) (c .before .before .before .before .before .before .before .before .before .before .before .before .before .before .args .verdict) (c .before .before .before .before .before .before .before .before .before .before .before .nodes-of .result) (c .before .before .before .before .before .before .before .before .own-of .result) (c .before .before .before .before .before .held-of .result) (c .before .before .append .last .0) (c .before .before .before .before .before .before .before .before .before .before .before .nodes-of .ensures .0) (c .before .before .before .before .before .before .before .before .before .before .if1 .left) (c .before .before .before .before .before .before .before .before .own-of .ensures) (c .before .before .before .before .before .before .before .if2 .left) (c .before .before .before .before .before .held-of .ensures .0) (c .before .before .before .before .if3 .left) (c .before .before .append .ensures)
+returns-4 c =
+    let at-append = c .before .before in
+    let at-if3 = at-append .before .before in
+    let at-held-of = at-if3 .before in
+    let at-if2 = at-held-of .before .before in
+    let at-own-of = at-if2 .before in
+    let at-if1 = at-own-of .before .before in
+    let at-nodes-of = at-if1 .before in
+    let start = at-nodes-of .before .before .before in
+    done (start .args .t .now) (start .pre) (start .args .node) (start .args .timestamp) (start .args .block) (start .args .verdict)
+    (at-nodes-of .nodes-of .result) (at-own-of .own-of .result) (at-held-of .held-of .result) (at-append .append .last .0)
+    (at-nodes-of .nodes-of .ensures .0) (at-if1 .if1 .left) (at-own-of .own-of .ensures) (at-if2 .if2 .left) (at-held-of .held-of .ensures .0)
+    (at-if3 .if3 .left) (at-append .append .ensures)
 
 pub write-spec : {M : Type 1} → statement M
 write-spec =
