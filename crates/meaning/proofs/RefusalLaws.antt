@@ -8,7 +8,7 @@ use native.Mathlib.Omega.{arith}
 use borrow.Author.Tests.{eq-eqb, ltb-true, not-true}
 use lib.Dec.{ltb, eqb}
 use Rattle.meaning.specs.Rows.{unless}
-use Rattle.meaning.specs.Refusals.{Test, test, first, from}
+use Rattle.meaning.specs.Refusals.{Test, test, first}
 use Rattle.meaning.proofs.RowLaws.{and-left, and-right}
 
 -- no test applies; each number is above 0, so that 0 is no test's; a number is a test's, or 0
@@ -24,14 +24,10 @@ unfoldable pub listed : ℕ → List Test → Bool
 listed k [] = eqb k 0
 listed k (x ∷ xs) = eqb k (x .number) || listed k xs
 
--- the test of number k, false where no row has it; and the tests before it
+-- the test of number k, false where no row has it
 unfoldable pub testOf : ℕ → List Test → Bool
 testOf k [] = false
 testOf k (x ∷ xs) = cond (eqb (x .number) k) (x .applies) (testOf k xs)
-
-unfoldable pub before : ℕ → List Test → List Test
-before k [] = []
-before k (x ∷ xs) = cond (eqb (x .number) k) [] (x ∷ before k xs)
 
 -- a row at the head: given, or passed over
 pub first-given : (k : ℕ) (b : Bool) (xs : List Test) → b ≡ true → first (test k b ∷ xs) ≡ k
@@ -88,19 +84,6 @@ first-listed (x ∷ xs) = go (x .applies) (first-listed xs)
     go : (b : Bool) → listed (first xs) xs ≡ true → (eqb (cond b (x .number) (first xs)) (x .number) || listed (cond b (x .number) (first xs)) xs) ≡ true
     go true ih = ap (λ (c : Bool). c || listed (x .number) xs) (eq-eqb (x .number) (x .number) refl)
     go false ih = ap (λ (c : Bool). eqb (first xs) (x .number) || c) ih ∙ or-true (eqb (first xs) (x .number))
-
--- Where none before number k applies, the tests from k on decide
-pub first-from : (k : ℕ) (xs : List Test) → none (before k xs) ≡ true → first xs ≡ first (from k xs)
-unfolding first none before from
-first-from k [] n = refl
-first-from k (x ∷ xs) n = go (eqb (x .number) k) (first-from k xs) n
-  where
-    go :
-        (b : Bool) → (none (before k xs) ≡ true → first xs ≡ first (from k xs)) → none (cond b [] (x ∷ before k xs)) ≡ true →
-        cond (x .applies) (x .number) (first xs) ≡ first (cond b (x ∷ xs) (from k xs))
-    go true ih m = refl
-    go false ih m =
-        rw (not-true (x .applies) (and-left (not (x .applies)) (none (before k xs)) m)) (ih (and-right (not (x .applies)) (none (before k xs)) m))
 
 -- A refusal changes nothing, and without one what is new is there
 module _ {A : Type 0} (xs : List Test) (new old : A) where

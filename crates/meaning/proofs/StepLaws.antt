@@ -1,7 +1,7 @@
 -- Laws of steps: what an accepted step is known to meet, the node that each action leaves, that a sound table stays sound, and the refusal
 -- of each action by the tests that were passed before it.
 use mathlib.Core.Path.{_≡_, refl, sym, ap, _∙_}
-use mathlib.Core.Bool.{Bool, true, false, not, _&&_, _||_, true≢false, and-true, or-true}
+use mathlib.Core.Bool.{Bool, true, false, not, _&&_, _||_, true≢false, and-true, or-true, cond}
 use mathlib.Core.List.{List, [], _∷_, _++_, append-nil}
 use Prim.Native.Nat.{ℕ, zero, suc, _-_, _*_, _≤_, _<_}
 use native.Mathlib.Omega.{arith}
@@ -14,7 +14,7 @@ use Rattle.meaning.specs.declared.Action.{Action}
 use Rattle.meaning.specs.declared.Action.the-variants.{Write, Session, Purge}
 use Rattle.meaning.specs.declared.Reply.the-variants.{Refused}
 use Rattle.meaning.specs.Rows.{all, newer, above, records}
-use Rattle.meaning.specs.Refusals.{first, from}
+use Rattle.meaning.specs.Refusals.{first}
 use Rattle.meaning.specs.Table.{
   Node,
   tableWords,
@@ -37,7 +37,7 @@ use Rattle.meaning.specs.Table.{
 use Rattle.meaning.specs.Node.{own, wrote, opened, sent, finished, ended, purged}
 use Rattle.meaning.specs.Steps.{finishesA, finishesB, overfull, refusals, refusal, limit, acted, reported, reply, after}
 use Rattle.meaning.proofs.RowLaws.{all-append, all-keep, length-above, and-both, length-raise, length-records, records-take}
-use Rattle.meaning.proofs.RefusalLaws.{none, numbered, testOf, before, first-at, first-from}
+use Rattle.meaning.proofs.RefusalLaws.{numbered, testOf, first-at}
 use Rattle.meaning.proofs.TableLaws.{
   sound-facts,
   facts-sound,
@@ -406,27 +406,63 @@ module _ (t : List ℕ) (s : Sound t) (a b ca cb o : ℕ) where
   unfolding refusal refusals first
   session-is-4 ho ha hb e = rw (facts-sound t s, le-ltb 3 o ho, lt-leb (count t) a ha, lt-leb (count t) b hb, eq-eqb a b e)
 
-  -- between two different nodes the tests from 5 on decide, and where no clock went back those from 6 on
-  pub session-from-5 : o ≤ 3 → a < count t → b < count t → (a ≡ b → ⊥) → refusal t (Session a b ca cb o) ≡ first (from 5 (refusals t (Session a b ca cb o)))
-  unfolding refusal refusals none before
-  session-from-5 ho ha hb e =
-      first-from 5 (refusals t (Session a b ca cb o))
-      (rw (facts-sound t s, le-ltb 3 o ho, lt-leb (count t) a ha, lt-leb (count t) b hb, ne-eqb a b e))
+  -- between two different nodes
+  module _ (ho : o ≤ 3) (ha : a < count t) (hb : b < count t) (apart : a ≡ b → ⊥) where
+    pub session-is-5-a : ca < own a (node t a) → refusal t (Session a b ca cb o) ≡ 5
+    unfolding refusal refusals first
+    session-is-5-a h =
+        rw
+        (facts-sound t s, le-ltb 3 o ho, lt-leb (count t) a ha, lt-leb (count t) b hb, ne-eqb a b apart, lt-ltb ca (own a (node t a)) h)
 
-module _ (t : List ℕ) (a b ca cb o : ℕ) where
-  pub meet-is-5-a : ca < own a (node t a) → first (from 5 (refusals t (Session a b ca cb o))) ≡ 5
-  unfolding refusals first from
-  meet-is-5-a h = rw (lt-ltb ca (own a (node t a)) h)
+    pub session-is-5-b : cb < own b (node t b) → refusal t (Session a b ca cb o) ≡ 5
+    unfolding refusal refusals first
+    session-is-5-b h =
+        rw (
+          facts-sound t s,
+          le-ltb 3 o ho,
+          lt-leb (count t) a ha,
+          lt-leb (count t) b hb,
+          ne-eqb a b apart,
+          lt-ltb cb (own b (node t b)) h,
+          or-true (ltb ca (own a (node t a))),
+        )
 
-  pub meet-is-5-b : cb < own b (node t b) → first (from 5 (refusals t (Session a b ca cb o))) ≡ 5
-  unfolding refusals first from
-  meet-is-5-b h = rw (lt-ltb cb (own b (node t b)) h, or-true (ltb ca (own a (node t a))))
+    -- where no clock went back
+    module _ (ga : own a (node t a) ≤ ca) (gb : own b (node t b) ≤ cb) where
+      full : Bool
+      full =
+          overfull (finishesA o) (opened a ca (node t a)) (opened b cb (node t b)) ||
+          overfull (finishesB o) (opened b cb (node t b)) (opened a ca (node t a))
 
-  pub meet-from-6 :
-      own a (node t a) ≤ ca → own b (node t b) ≤ cb →
-      first (from 5 (refusals t (Session a b ca cb o))) ≡ first (from 6 (refusals t (Session a b ca cb o)))
-  unfolding refusals first from
-  meet-from-6 h g = rw (le-ltb ca (own a (node t a)) h, le-ltb cb (own b (node t b)) g)
+      session-room : (k : ℕ) → cond full 6 0 ≡ k → refusal t (Session a b ca cb o) ≡ k
+      unfolding refusal refusals first full
+      session-room k h =
+          rw (
+            facts-sound t s,
+            le-ltb 3 o ho,
+            lt-leb (count t) a ha,
+            lt-leb (count t) b hb,
+            ne-eqb a b apart,
+            le-ltb ca (own a (node t a)) ga,
+            le-ltb cb (own b (node t b)) gb,
+          )
+          h
+
+      pub session-is-6 :
+          (overfull (finishesA o) (opened a ca (node t a)) (opened b cb (node t b)) ||
+          overfull (finishesB o) (opened b cb (node t b)) (opened a ca (node t a))) ≡
+          true →
+          refusal t (Session a b ca cb o) ≡ 6
+      unfolding full
+      session-is-6 h = session-room 6 (rw h)
+
+      pub session-is-0 :
+          (overfull (finishesA o) (opened a ca (node t a)) (opened b cb (node t b)) ||
+          overfull (finishesB o) (opened b cb (node t b)) (opened a ca (node t a))) ≡
+          false →
+          refusal t (Session a b ca cb o) ≡ 0
+      unfolding full
+      session-is-0 h = session-room 0 (rw h)
 
 pub unsound-refusal : (t : List ℕ) (x : Action) → sound t ≡ false → refusal t x ≡ 1
 unfolding refusal refusals first

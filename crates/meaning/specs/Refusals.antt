@@ -2,7 +2,6 @@
 use mathlib.Core.Bool.{Bool, cond}
 use mathlib.Core.List.{List, [], _∷_}
 use Prim.Native.Nat.{ℕ}
-use lib.Dec.{eqb}
 
 -- a row of document 01's tables: its number, and whether it is to be given
 pub record Test : Type 0 where
@@ -16,8 +15,3 @@ test k b = record { number = k; applies = b }
 unfoldable pub first : List Test → ℕ
 first [] = 0
 first (x ∷ xs) = cond (x .applies) (x .number) (first xs)
-
--- the tests from number k on: what is left to ask once those before it were passed
-unfoldable pub from : ℕ → List Test → List Test
-from k [] = []
-from k (x ∷ xs) = cond (eqb (x .number) k) (x ∷ xs) (from k xs)

@@ -10,7 +10,7 @@ use Rattle.meaning.specs.declared.Action.the-variants.{Write, Session, P
 use Rattle.meaning.specs.declared.Reply.{Reply}
 use Rattle.meaning.specs.declared.Reply.the-variants.{Written, Carried, Purged, Refused}
 use Rattle.meaning.specs.Rows.{unless, least}
-use Rattle.meaning.specs.Refusals.{Test, test, first, from}
+use Rattle.meaning.specs.Refusals.{Test, test, first}
 use Rattle.meaning.specs.Table.{Node, logMost, absent, node, putNode, sound}
 use Rattle.meaning.specs.Node.{own, wrote, opened, sent, finished, ended, purged}
 
@@ -102,13 +102,6 @@ reply t x = replied (refusal t x) (reported t x)
 
 unfoldable pub after : List ℕ → Action → List ℕ
 after t x = unless (refusal t x) (acted t x) t
-
--- the same, where only the tests from number k on are still to be asked
-abbrev pub replyFrom : ℕ → List ℕ → Action → Reply
-replyFrom k t x = replied (first (from k (refusals t x))) (reported t x)
-
-abbrev pub afterFrom : ℕ → List ℕ → Action → List ℕ
-afterFrom k t x = unless (first (from k (refusals t x))) (acted t x) t
 
 -- Document 01's values of each reply: the number (0 for none), then the two counts
 abbrev pub replyValues : Reply → List ℕ

@@ -112,11 +112,7 @@ module _ {t : List ℕ} {a b : ℕ} {sa ka sb kb : List ℕ} (m : Meets t a b sa
     heldA =
         let x = begun sa ka (node t a .log) in
         let y = begun sb kb (node t b .log) in
-        let g = m .hereA in
-        let p =
-        put-held t (m .isSound) a g (ended f x y)
-        (ended-shaped (count t) x (shapedA m) y (shapedA (turned m)) f roomA)
-        in
+        let p = put-held t (m .isSound) a (m .hereA) (ended f x y) (ended-shaped (count t) x (shapedA m) y (shapedA (turned m)) f roomA) in
         let l = ap length (ended-log f x y) ∙ length-append (node t a .log) (taken f x y) in
         let e = held-log t a in
         let q = ap (λ (z : List ℕ). held z a) half in

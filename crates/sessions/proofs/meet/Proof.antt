@@ -8,42 +8,37 @@ use lib.ListN.{length, take}
 use Rattle.meaning.specs.declared.Reply.{Reply}
 use Rattle.meaning.specs.declared.Reply.the-variants.{Refused}
 use Rattle.meaning.specs.declared.Action.the-variants.{Session}
-use Rattle.meaning.specs.Refusals.{first, from}
 use Rattle.meaning.specs.Table.{Node, node, count, Sound}
 use Rattle.meaning.specs.Node.{own, opened}
-use Rattle.meaning.specs.Steps.{refusals, refusal, acted, reported}
+use Rattle.meaning.specs.Steps.{acted, reported}
 use Rattle.meaning.proofs.TableLaws.{node-shaped}
-use Rattle.meaning.proofs.StepLaws.{opened-shaped, session-from-5, meet-is-5-a, meet-is-5-b, meet-from-6, refuse, accept}
+use Rattle.meaning.proofs.StepLaws.{opened-shaped, session-is-5-a, session-is-5-b, session-is-6, session-is-0, refuse, accept}
 use Rattle.looks.specs.Applied.{Applied}
 use Rattle.sides.specs.Begun.{begun, Starts}
-use Rattle.sessions.specs.Met.{Exchanged, Meets, Traded, crowded}
+use Rattle.sessions.specs.Met.{crowded, Exchanged, Meets, Traded}
 use borrow.Author.Needs.{needs}
 use Rattle.sessions.proofs.meet.Statement.{statement}
 use Rattle.sessions.proofs.meet.Tie as tie
 
 module _ (t : List ℕ) (a b ca cb o : ℕ) (pre : Sound t × (a < count t) × (b < count t) × (a ≡ b → ⊥) × (o ≤ 3)) where
-  -- the tests for 2, 3 and 4 are passed
-  later : (k : ℕ) → first (from 5 (refusals t (Session a b ca cb o))) ≡ k → refusal t (Session a b ca cb o) ≡ k
-  later k h = session-from-5 t (pre .0) a b ca cb o (pre .4) (pre .1) (pre .2) (pre .3) ∙ h
-
   backA : (x : ℕ) → x ≡ own a (node t a) → ca < x → Applied t (Session a b ca cb o) (Refused 5) t
-  backA x e h = refuse t (Session a b ca cb o) 4 (later 5 (meet-is-5-a t a b ca cb o (omega arith)))
+  backA x e h = refuse t (Session a b ca cb o) 4 (session-is-5-a t (pre .0) a b ca cb o (pre .4) (pre .1) (pre .2) (pre .3) (omega arith))
 
   backB : (x : ℕ) → x ≡ own b (node t b) → cb < x → Applied t (Session a b ca cb o) (Refused 5) t
-  backB x e h = refuse t (Session a b ca cb o) 4 (later 5 (meet-is-5-b t a b ca cb o (omega arith)))
+  backB x e h = refuse t (Session a b ca cb o) 4 (session-is-5-b t (pre .0) a b ca cb o (pre .4) (pre .1) (pre .2) (pre .3) (omega arith))
 
-  -- the readings are in order: only the test for 6 is left
+  -- the readings are in order
   module _ {r : Reply} {u : List ℕ} (trade : Traded t o a b (opened a ca (node t a)) (opened b cb (node t b)) r u)
-      (clock : first (from 5 (refusals t (Session a b ca cb o))) ≡ first (from 6 (refusals t (Session a b ca cb o)))) where
+      (ga : own a (node t a) ≤ ca) (gb : own b (node t b) ≤ cb) where
     by-room : (full : Bool) → crowded o (opened a ca (node t a)) (opened b cb (node t b)) ≡ full → Applied t (Session a b ca cb o) r u
-    unfolding first from refusals reported acted
+    unfolding reported acted
     by-room true h =
         let is = trade .full h in
-        let asked = refuse t (Session a b ca cb o) 5 (later 6 (clock ∙ rw h)) in
+        let asked = refuse t (Session a b ca cb o) 5 (session-is-6 t (pre .0) a b ca cb o (pre .4) (pre .1) (pre .2) (pre .3) ga gb h) in
         (is .0 ∙ asked .0, is .1 ∙ asked .1)
     by-room false h =
         let is = trade .done h in
-        let asked = accept t (Session a b ca cb o) (later 0 (clock ∙ rw h)) in
+        let asked = accept t (Session a b ca cb o) (session-is-0 t (pre .0) a b ca cb o (pre .4) (pre .1) (pre .2) (pre .3) ga gb h) in
         (is .0 ∙ asked .0, is .1 ∙ asked .1)
 
   module _ (n : ℕ) (en : n ≡ count t) (m : ℕ) (em : m ≡ n) (sa ka sb kb : List ℕ) (ea : Starts t a n ca sa ka) (eb : Starts t b n cb sb kb) where
@@ -72,7 +67,7 @@ module _ (t : List ℕ) (a b ca cb o : ℕ) (pre : Sound t × (a < count t) × (
         Exchanged t o a b (take m sa) (take m ka) (take m sb) (take m kb) r u → Applied t (Session a b ca cb o) r u
     done x y ex lx ey ly {r} {u} e =
         let trade : Traded t o a b (opened a ca (node t a)) (opened b cb (node t b)) r u = rw (lent a ca sa ka ea, lent b cb sb kb eb) at e in
-        by-room trade (meet-from-6 t a b ca cb o (omega arith) (omega arith)) (crowded o (opened a ca (node t a)) (opened b cb (node t b))) refl
+        by-room trade (omega arith) (omega arith) (crowded o (opened a ca (node t a)) (opened b cb (node t b))) refl
 
 own-of-requires : tie.Need-own-of-requires
 own-of-requires c κs =

@@ -24,12 +24,10 @@ module _ (t : List ℕ) (s : Sound t) (a b ca cb o : ℕ) where
     absentA h = refuse t (Session a b ca cb o) 2 (session-is-3-a t s a b ca cb o ho (omega arith))
 
     absentB : n ≤ b → Refuses 3
-    absentB h =
-        refuse t (Session a b ca cb o) 2 (session-is-3-b t s a b ca cb o ho (omega arith))
+    absentB h = refuse t (Session a b ca cb o) 2 (session-is-3-b t s a b ca cb o ho (omega arith))
 
     twice : a < n → b < n → a ≡ b → Refuses 4
-    twice ha hb e =
-        refuse t (Session a b ca cb o) 3 (session-is-4 t s a b ca cb o ho (omega arith) (omega arith) e)
+    twice ha hb e = refuse t (Session a b ca cb o) 3 (session-is-4 t s a b ca cb o ho (omega arith) (omega arith) e)
 
 -- what `meet` asks
 ready :
