@@ -152,6 +152,9 @@ add-result c =
     let at-log-at2 = at-carry .before in
     let at-if1 = at-log-at2 .before .before .before in
     let start = at-if1 .before .before .before in
+    let few = most (start .pre) in
+    let mine = few .0 in
+    let theirs = few .1 in
     let fits = bound (start .pre) (not-false (start .args .finishes) (at-if1 .if1 .left)) (at-carry .carry .ensures) (at-log-at2 .log-at2 .ensures) in
     omega arith
 
