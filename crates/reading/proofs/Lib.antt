@@ -1,5 +1,2 @@
-pub mod DigitLaws
-pub mod FieldLaws
-pub mod HeadLaws
 pub mod LineLaws
 pub mod OneReply

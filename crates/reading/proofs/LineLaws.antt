@@ -27,8 +27,9 @@ use Rattle.meaning.specs.Frames.{
   readLine,
 }
 use Rattle.meaning.proofs.FrameLaws.{kind-cases, Good, good, read-refused, read-begin, read-act}
-use Rattle.reading.specs.Fields.{fieldAt, Within, Whole, writeAt, sessionAt, purgeAt}
-use Rattle.reading.proofs.FieldLaws.{rest-purge, fieldsFrom, line-fields, action-write, action-session, action-purge}
+use Rattle.digits.specs.Digits.{fieldAt, Within}
+use Rattle.heads.specs.Heads.{Whole, writeAt, sessionAt, purgeAt}
+use Rattle.heads.proofs.FieldLaws.{rest-purge, fieldsFrom, line-fields, action-write, action-session, action-purge}
 
 -- past the fields
 pub past : (xs : List ℕ) (i : ℕ) → length xs ≤ i → 0 ≡ getD xs i 0

@@ -4,9 +4,9 @@ ghost use mathlib.Core.Bool.{true};
 ghost use Prim.Native.Nat.{_<_};
 ghost use lib.ListN.{length, getD};
 ghost use Rattle.meaning.specs.Frames.{bytesOf, allDigits, lineFields, actionOf, fieldsOf};
-ghost use Rattle.reading.specs.Fields.{Whole, writeAt, sessionAt, purgeAt};
-use super::digits::byte;
-use super::digits::word;
+ghost use Rattle.heads.specs.Heads.{Whole, writeAt, sessionAt, purgeAt};
+use digits::byte;
+use digits::word;
 use meaning::Action;
 
 // The write that a line of 24 digits holds.

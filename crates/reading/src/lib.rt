@@ -3,14 +3,12 @@ ghost use mathlib.Core.Path.{_≡_};
 ghost use Prim.Native.Nat.{_+_};
 ghost use lib.ListN.{getD};
 ghost use Rattle.meaning.specs.Frames.{readLine, lineRefusal, lineValues};
+use heads::head;
+use heads::why;
 use meaning::Line;
 use meaning::Step;
 
-mod digits;
 mod fields;
-mod head;
-mod kinds;
-mod why;
 
 // The refusal of a single line (without its LF), for any bytes at all: the first that applies, of 12, 11, 13 and 15, 0 for none.
 pub fn check(s: &[u8]) -> u32

@@ -1,6 +1,6 @@
 -- `check` meets its contract: where the head is none, its refusal.
 use mathlib.Core.Path.{sym}
-use Rattle.reading.proofs.HeadLaws.{head-clear}
+use Rattle.heads.proofs.HeadLaws.{head-clear}
 use borrow.Author.Needs.{needs}
 use Rattle.reading.proofs.check.Statement.{statement}
 use Rattle.reading.proofs.check.Tie as tie

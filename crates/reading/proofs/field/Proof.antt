@@ -1,8 +1,8 @@
 -- `field` meets its contract: a refused line, and the fields of each kind.
 use mathlib.Core.Path.{refl}
 use Rattle.meaning.specs.Frames.{journalKinds, widthsIn, digitsIn, lineRefusal}
-use Rattle.reading.proofs.FieldLaws.{whole-at, whole-short}
-use Rattle.reading.proofs.HeadLaws.{head-clear, head-refused}
+use Rattle.heads.proofs.FieldLaws.{whole-at, whole-short}
+use Rattle.heads.proofs.HeadLaws.{head-clear, head-refused}
 use Rattle.reading.proofs.LineLaws.{refused-field, line-whole, write-value, session-value, short-value}
 use borrow.Author.Needs.{needs}
 use Rattle.reading.proofs.field.Statement.{statement}

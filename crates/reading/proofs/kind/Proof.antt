@@ -1,7 +1,7 @@
 -- `kind` meets its contract: a refused line, and the head of any other.
 use mathlib.Core.Path.{refl}
 use Rattle.meaning.specs.Frames.{lineRefusal}
-use Rattle.reading.proofs.HeadLaws.{head-clear, head-refused}
+use Rattle.heads.proofs.HeadLaws.{head-clear, head-refused}
 use Rattle.reading.proofs.LineLaws.{refused-kind, line-kind}
 use borrow.Author.Needs.{needs}
 use Rattle.reading.proofs.kind.Statement.{statement}

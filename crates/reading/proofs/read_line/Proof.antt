@@ -2,7 +2,7 @@
 use mathlib.Core.Path.{sym, _∙_, ap}
 use native.Mathlib.Omega.{arith}
 use Rattle.meaning.specs.declared.Line.the-variants.{Act}
-use Rattle.reading.proofs.HeadLaws.{head-clear, head-refused}
+use Rattle.heads.proofs.HeadLaws.{head-clear, head-refused}
 use Rattle.reading.proofs.LineLaws.{line-refused, second-in, line-whole, line-begin, line-act}
 use borrow.Author.Needs.{needs}
 use Rattle.reading.proofs.read_line.Statement.{statement}

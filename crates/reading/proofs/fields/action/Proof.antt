@@ -2,7 +2,7 @@
 use mathlib.Core.Path.{_∙_}
 use native.Mathlib.Omega.{arith}
 use Rattle.meaning.specs.Frames.{journalKinds, widthsIn, digitsIn}
-use Rattle.reading.proofs.FieldLaws.{rest-purge, whole-at, action-write, action-session, action-purge}
+use Rattle.heads.proofs.FieldLaws.{rest-purge, whole-at, action-write, action-session, action-purge}
 use Rattle.reading.proofs.fields.action.Statement.{statement}
 use Rattle.reading.proofs.fields.action.Tie as tie
 

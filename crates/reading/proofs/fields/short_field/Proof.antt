@@ -1,7 +1,7 @@
 -- `short_field` meets its contract: each field by its place, and past them 0.
 use native.Mathlib.Omega.{arith}
 use Rattle.meaning.specs.Frames.{fieldsOf}
-use Rattle.reading.specs.Fields.{purgeAt}
+use Rattle.heads.specs.Heads.{purgeAt}
 use Rattle.reading.proofs.LineLaws.{past, value-at}
 use borrow.Author.Needs.{needs}
 use Rattle.reading.proofs.fields.short_field.Statement.{statement}
