@@ -115,6 +115,6 @@ fn number_of(answer: Line) -> u32 {
 pub(crate) fn frame(name: &[u8]) {
     io::write_all(1, b"line ");
     io::write_all(1, name);
-    field(b": refusal ", number_of(frames::read_line(name, 1)));
+    field(b": refusal ", number_of(reading::read_line(name, 1)));
     io::write_all(1, b"\n");
 }

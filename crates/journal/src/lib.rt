@@ -76,7 +76,7 @@ pub fn next_at(s: &[u8], at: usize, line: usize) -> Next
         Found::Over => Next::End,
         Found::Unended => Next::Refused { number: 14 },
         Found::Line { end } => {
-            let said = frames::read_line(&s[at..end], line);
+            let said = reading::read_line(&s[at..end], line);
             in_turn(at == 0, end + 1, said)
         }
     }

@@ -1,4 +1,4 @@
-// Frames for C: check a line, its kind and fields, and write each kind of frame. Thin over the crate `frames`.
+// Frames for C: check a line, its kind and fields, and write each kind of frame. Thin over the crates `reading` and `writing`.
 ghost use mathlib.Core.Path.{_≡_};
 ghost use Prim.Native.Nat.{_+_, _≤_};
 ghost use lib.ListN.{getD};
@@ -11,7 +11,7 @@ use meaning::Framed;
 pub extern "C" fn pollencart_check(line: &[u8]) -> u32
     ensures { λ r. ⌜ r ≡ lineRefusal (now (line .entry)) ⌝ }
 {
-    frames::check(line)
+    reading::check(line)
 }
 
 // The kind of a line, 0 for one that is refused. A start's is 0 too: the check tells them apart.
@@ -19,7 +19,7 @@ pub extern "C" fn pollencart_check(line: &[u8]) -> u32
 pub extern "C" fn pollencart_kind(line: &[u8]) -> u32
     ensures { λ r. ⌜ r ≡ getD (lineValues (readLine 0 (now (line .entry)))) 1 0 ⌝ }
 {
-    frames::kind(line)
+    reading::kind(line)
 }
 
 // The field of a line at this place among its kind's fields, from 0; 0 for a refused line and for a field that the kind has not.
@@ -27,7 +27,7 @@ pub extern "C" fn pollencart_kind(line: &[u8]) -> u32
 pub extern "C" fn pollencart_field(line: &[u8], index: u32) -> u32
     ensures { λ r. ⌜ r ≡ getD (lineValues (readLine 0 (now (line .entry)))) (2 + index) 0 ⌝ }
 {
-    frames::field(line, index)
+    reading::field(line, index)
 }
 
 // The writer's answer for C: the refusal number, 0 for none, and the length through the reference, 0 if refused.
@@ -52,7 +52,7 @@ fn report(answer: Framed, length: &mut u32) -> u32
 pub extern "C" fn pollencart_frame_start(out: &mut [u8], n: u8, length: &mut u32) -> u32
     ensures { λ r. ⌜ (r ≡ getD (framedValues (startReply (now (out .entry)) n)) 0 0) × (now (length .exit) ≡ getD (framedValues (startReply (now (out .entry)) n)) 1 0) × (now (out .exit) ≡ startAfter (now (out .entry)) n) ⌝ }
 {
-    let answer = frames::write_start(out, n);
+    let answer = writing::write_start(out, n);
     report(answer, length)
 }
 
@@ -68,7 +68,7 @@ pub extern "C" fn pollencart_frame_write(
 ) -> u32
     ensures { λ r. ⌜ (r ≡ getD (framedValues (frameReply (now (out .entry)) (Write node timestamp block verdict))) 0 0) × (now (length .exit) ≡ getD (framedValues (frameReply (now (out .entry)) (Write node timestamp block verdict))) 1 0) × (now (out .exit) ≡ frameAfter (now (out .entry)) (Write node timestamp block verdict)) ⌝ }
 {
-    let answer = frames::write::write(out, node, timestamp, block, verdict);
+    let answer = writing::write::write(out, node, timestamp, block, verdict);
     report(answer, length)
 }
 
@@ -85,7 +85,7 @@ pub extern "C" fn pollencart_frame_session(
 ) -> u32
     ensures { λ r. ⌜ (r ≡ getD (framedValues (frameReply (now (out .entry)) (Session a b ca cb outcome))) 0 0) × (now (length .exit) ≡ getD (framedValues (frameReply (now (out .entry)) (Session a b ca cb outcome))) 1 0) × (now (out .exit) ≡ frameAfter (now (out .entry)) (Session a b ca cb outcome)) ⌝ }
 {
-    let answer = frames::write::session(out, a, b, ca, cb, outcome);
+    let answer = writing::write::session(out, a, b, ca, cb, outcome);
     report(answer, length)
 }
 
@@ -94,6 +94,6 @@ pub extern "C" fn pollencart_frame_session(
 pub extern "C" fn pollencart_frame_purge(out: &mut [u8], node: u8, length: &mut u32) -> u32
     ensures { λ r. ⌜ (r ≡ getD (framedValues (frameReply (now (out .entry)) (Purge node))) 0 0) × (now (length .exit) ≡ getD (framedValues (frameReply (now (out .entry)) (Purge node))) 1 0) × (now (out .exit) ≡ frameAfter (now (out .entry)) (Purge node)) ⌝ }
 {
-    let answer = frames::write::purge(out, node);
+    let answer = writing::write::purge(out, node);
     report(answer, length)
 }

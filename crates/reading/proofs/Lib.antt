@@ -1,0 +1,4 @@
+pub mod LineLaws
+pub mod OneReply
+pub mod ReadLaws
+pub mod ShortLaws

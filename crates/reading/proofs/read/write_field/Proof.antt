@@ -1,0 +1,57 @@
+-- `write_field` meets its contract: each field by its place, and past them 0.
+use native.Mathlib.Omega.{arith}
+use Rattle.meaning.specs.Frames.{fieldsOf}
+use Rattle.reading.specs.Fields.{writeAt}
+use Rattle.reading.proofs.LineLaws.{past, value-at}
+use borrow.Author.Needs.{needs}
+use Rattle.reading.proofs.read.write_field.Statement.{statement}
+use Rattle.reading.proofs.read.write_field.Tie as tie
+
+byte-requires : tie.Need-byte-requires
+byte-requires c κs = search needs
+
+cast-result : tie.Need-cast-result
+cast-result c = search needs
+
+field-requires : tie.Need-field-requires
+field-requires c κs = search needs
+
+field-requires-2 : tie.Need-field-requires-2
+field-requires-2 c κs = search needs
+
+byte-requires-2 : tie.Need-byte-requires-2
+byte-requires-2 c κs = search needs
+
+cast-result-2 : tie.Need-cast-result-2
+cast-result-2 c = search needs
+
+returns : tie.Need-returns
+returns c = value-at (fieldsOf (writeAt (c .before .before .before .args .s .now))) (c .before .before .before .args .index) 0 (c .byte .result) (c .before .match .keys1) (c .byte .ensures)
+
+returns-2 : tie.Need-returns-2
+returns-2 c = value-at (fieldsOf (writeAt (c .before .before .before .args .s .now))) (c .before .before .before .args .index) 1 (c .field .result) (c .before .match .keys2) (c .field .ensures)
+
+returns-3 : tie.Need-returns-3
+returns-3 c = value-at (fieldsOf (writeAt (c .before .before .before .args .s .now))) (c .before .before .before .args .index) 2 (c .field2 .result) (c .before .match .keys3) (c .field2 .ensures)
+
+returns-4 : tie.Need-returns-4
+returns-4 c = value-at (fieldsOf (writeAt (c .before .before .before .args .s .now))) (c .before .before .before .args .index) 3 (c .byte2 .result) (c .before .match .keys4) (c .byte2 .ensures)
+
+returns-5 : tie.Need-returns-5
+returns-5 c = past (fieldsOf (writeAt (c .before .before .args .s .now))) (c .before .before .args .index) (omega arith)
+
+pub write-field-spec : {M : Type 1} → statement M
+write-field-spec =
+    tie.close
+    (tie.spec
+    byte-requires
+    cast-result
+    field-requires
+    field-requires-2
+    byte-requires-2
+    cast-result-2
+    returns
+    returns-2
+    returns-3
+    returns-4
+    returns-5)
