@@ -96,7 +96,8 @@ pub over-facts : (s : List ℕ) (at : ℕ) → foundAt s at ≡ Over → leb (le
 unfolding foundAt
 over-facts s at e = go (leb (length s) at) (unended s at) refl refl e
   where
-    go : (a b : Bool) → leb (length s) at ≡ a → unended s at ≡ b → cond a Over (cond b Unended (Line (at + length (lineAt s at)))) ≡ Over → leb (length s) at ≡ true
+    go : (a b : Bool) → leb (length s) at ≡ a → unended s at ≡ b → cond a Over (cond b Unended (Line (at + length (lineAt s at)))) ≡ Over
+        → leb (length s) at ≡ true
     go true b p q r = p
     go false true p q r = never (cc)
     go false false p q r = never (cc)

@@ -1,4 +1,5 @@
--- What the line finder answers, by the definitions of a line, and the values of what it and the reader answer, by place and bytes. Document 01, "Frames and journals".
+-- What the line finder answers, by the definitions of a line, and the values of what it and the reader answer, by place and bytes.
+-- Document 01, "Frames and journals".
 use mathlib.Core.Bool.{Bool, true, false, cond}
 use mathlib.Core.List.{List, [], _∷_, _++_}
 use Prim.Native.Nat.{ℕ, zero, suc, _+_}

@@ -3,7 +3,7 @@
 -- theorem `edges` is the whole table at once. Each step runs on a real table of 4,625 words: its row shows the refusal, both counts, and place
 -- and new value of every word that changed, so that no other word did.
 use mathlib.Core.Path.{_≡_, refl}
-use mathlib.Core.Bool.{Bool, true, false, _&&_}
+use mathlib.Core.Bool.{Bool, true, false, _&&_, cond}
 use mathlib.Core.List.{List, [], _∷_, _++_, map}
 use Prim.Native.Nat.{ℕ, suc, _+_, _*_}
 use Prim.Native.String.{String}
@@ -11,7 +11,7 @@ use lib.Dec.{T, ltb, eqb, eqb→eq}
 use Rattle.meaning.specs.declared.Action.{Action}
 use Rattle.meaning.specs.declared.Action.the-variants.{Write, Session, Purge}
 use Rattle.meaning.specs.declared.Reply.the-variants.{Refused}
-use Rattle.meaning.specs.Rows.{given, ascii, every, keep, least, raise, covers, newer, above, recordAt, records, words}
+use Rattle.meaning.specs.Rows.{ascii, every, keep, least, raise, covers, newer, above, recordAt, records, words}
 use Rattle.meaning.specs.Table.{summaryAt, acksAt, heldAt, logAt, part, place, count, held, node, putNode, fresh, recordSound, logSound, sound}
 use Rattle.meaning.specs.Node.{own, wrote, opened, finished, purged}
 use Rattle.meaning.specs.Steps.{outcomeAbove, nodeAbsent, nodeTwice, clockBack, noRoom, refusal, limit, acted, reported, reply, after, replyValues}
@@ -150,7 +150,12 @@ example : List ℕ
 example = ascii "0002FE\n0100000000050000001010DA\n020001000000060000000403F0\n020001000000070000000701EE\n0300FD\n020001000000080000000803EA\n0300FD\n"
 
 pub rows : List Row
-unfolding every keep least raise covers newer above recordAt records words part place count held node putNode fresh recordSound logSound sound own wrote opened finished purged outcomeAbove nodeAbsent nodeTwice clockBack noRoom refusal limit acted reported reply after digit digitValue spelled bytesOf allDigits total check widths digitsOf highFirst number packed unpacked actionOf sealed frameOf frame startFrame lineKind lineFields lineRefusal readLine untilLF hasLF unended lineAt placeAfter nextAt stepsFrom journal afterAll refusedOf replayed replayAfter decimalIn decimal spaced said nodeLine nodeLines printed classOf scrubbed touched counted countRefusal verdictCount changes does refused reached verdict line example same Holds
+unfolding every keep least raise covers newer above recordAt records words part place count held node putNode fresh recordSound logSound
+    sound own wrote opened finished purged outcomeAbove nodeAbsent nodeTwice clockBack noRoom refusal limit acted reported reply after digit
+    digitValue spelled bytesOf allDigits total check widths digitsOf highFirst number packed unpacked actionOf sealed frameOf frame startFrame
+    lineKind lineFields lineRefusal readLine untilLF hasLF unended lineAt placeAfter nextAt stepsFrom journal afterAll refusedOf replayed
+    replayAfter decimalIn decimal spaced said nodeLine nodeLines printed classOf scrubbed touched counted countRefusal verdictCount changes does
+    refused reached verdict line example same Holds
 rows =
     row "write at 0" (does two (Write 0 0 16 0x20)) (refused 5) tt ∷
     row "write at 1" (does two (Write 0 1 16 0x20)) (0 ∷ 0 ∷ 0 ∷ 1 ∷ 1 ∷ 513 ∷ 1 ∷ 530 ∷ 1 ∷ 531 ∷ 16 ∷ 532 ∷ 0x20 ∷ []) tt ∷
@@ -233,11 +238,12 @@ edges = all-hold rows
 
 -- "session 0 with 0: 4, whatever the readings", and whatever the outcome; one above 3 is refused with 2 before. No word changes.
 pub itself : (ca cb outcome : ℕ)
-    → (reply two (Session 0 0 ca cb outcome) ≡ Refused (given (ltb 3 outcome) 2 4)) × (after two (Session 0 0 ca cb outcome) ≡ two)
-unfolding every least raise recordAt records part place count held node fresh recordSound logSound sound outcomeAbove nodeAbsent nodeTwice refusal reply after
+    → (reply two (Session 0 0 ca cb outcome) ≡ Refused (cond (ltb 3 outcome) 2 4)) × (after two (Session 0 0 ca cb outcome) ≡ two)
+unfolding every least raise recordAt records part place count held node fresh recordSound logSound sound outcomeAbove nodeAbsent nodeTwice
+    refusal reply after
 itself ca cb outcome = go (ltb 3 outcome) refl
   where
     go : (b : Bool) → ltb 3 outcome ≡ b
-        → (reply two (Session 0 0 ca cb outcome) ≡ Refused (given (ltb 3 outcome) 2 4)) × (after two (Session 0 0 ca cb outcome) ≡ two)
+        → (reply two (Session 0 0 ca cb outcome) ≡ Refused (cond (ltb 3 outcome) 2 4)) × (after two (Session 0 0 ca cb outcome) ≡ two)
     go true e = rw e (refl, refl)
     go false e = rw e (refl, refl)

@@ -18,6 +18,7 @@ pub mod AccountRises
 pub mod AccountJournals
 pub mod VerdictLaws
 pub mod VerdictTheorems
+pub mod ClassRanges
 pub mod OneReply
 pub mod FrameInverses
 pub mod FrameTheorems

@@ -72,3 +72,12 @@ nodeCount t p = countIs (given (not (sound t)) 1 (given (leb (count t) p) 3 0)) 
 abbrev pub countValues : Count → List ℕ
 countValues (Counted s t) = 0 ∷ s ∷ t ∷ []
 countValues (Refused k) = k ∷ 0 ∷ 0 ∷ []
+
+-- Document 01's values of each class: its first and its last verdict byte
+abbrev pub classRange : Class → List ℕ
+classRange NotRead = 0x00 ∷ 0x0f ∷ []
+classRange PageCache = 0x10 ∷ 0x1f ∷ []
+classRange PlatterGood = 0x20 ∷ 0x2f ∷ []
+classRange PlatterBad = 0x30 ∷ 0x3f ∷ []
+classRange Repaired = 0x40 ∷ 0x4f ∷ []
+classRange Reserved = 0x50 ∷ 0xff ∷ []

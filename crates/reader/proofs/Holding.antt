@@ -20,7 +20,7 @@ use denote.Plain.{uint-makes}
 use denote.Builtin.{u8, usize}
 use denote.Ref.{RefT}
 use denote.Signature.{namedLft}
-use denote.Slice.{sliceVal, ShrSlice, shr-slice-copy}
+use denote.Slice.{sliceVal, ShrSlice}
 use denote.Steps.{owned, nothing}
 use denote.Struct.Declared.{Declared}
 use denote.Struct.Laws as LL

@@ -81,7 +81,8 @@ returns-2 c =
     let at-find = at-told .before .before in
     let a = at-find .before .before .args in
     let e = sym (at-find .find .ensures) ∙ at-told .enum-told .given .1 in
-    record { memory = refl; place = rw (unended-facts (now (a .s)) (a .at) e .0) (omega arith); is = none-taken (a .at) (now (a .s)) ∙ unended-line (now (a .s)) (a .at) e }
+    let t = now (a .s) in
+    record { memory = refl; place = rw (unended-facts t (a .at) e .0) (omega arith); is = none-taken (a .at) t ∙ unended-line t (a .at) e }
 
 returns-3 : tie.Need-returns-3
 returns-3 c =
@@ -89,7 +90,8 @@ returns-3 c =
     let at-find = at-told .before .before in
     let a = at-find .before .before .args in
     let e = sym (at-find .find .ensures) ∙ at-told .enum-told2 .given .1 in
-    record { memory = refl; place = rw (over-facts (now (a .s)) (a .at) e) (search needs); is = none-taken (length (now (a .s))) (now (a .s)) ∙ over-line (now (a .s)) (a .at) e }
+    let t = now (a .s) in
+    record { memory = refl; place = rw (over-facts t (a .at) e) (search needs); is = none-taken (length t) t ∙ over-line t (a .at) e }
 
 pub line-spec : {M : Type 1} → statement M
 line-spec =

@@ -77,7 +77,8 @@ module _ {M : Type 1} (𝓤 : URA M) (H : Heap 𝓤) (A : Atoms 𝓤) (mem : Mem
   abbrev PartAt : Contract 𝓤
   PartAt = tripleOf 𝓤 H A at.signature (at.spec 𝓤 H A mem run)
 
-module _ {M : Type 1} (𝓤 : URA M) (H : Heap 𝓤) (A : Atoms 𝓤) (W : Given 𝓤 H A) (mem : Memory → SProp 𝓤) (run : Routine → Fun 𝓤) (κ : Lft) (q : Share) (d : Reader) (n : ℕ) (ok : n < 2 ^ 64) where
+module _ {M : Type 1} (𝓤 : URA M) (H : Heap 𝓤) (A : Atoms 𝓤) (W : Given 𝓤 H A) (mem : Memory → SProp 𝓤) (run : Routine → Fun 𝓤)
+    (κ : Lft) (q : Share) (d : Reader) (n : ℕ) (ok : n < 2 ^ 64) where
   abbrev Post : Val → SProp 𝓤
   Post = walkOf 𝓤 H A part.ended stayed (part.clauses 𝓤 H A mem run) .post (((κ, tt), (q, tt), tt, (d, (n, tt)), two d n), tt)
 
@@ -91,14 +92,16 @@ module _ {M : Type 1} (𝓤 : URA M) (H : Heap 𝓤) (A : Atoms 𝓤) (W : Given
 
   asked : ent 𝓤 (OnThree 𝓤 H A W κ q (d .journal) (d .at) n) (PartAt 𝓤 H A mem run .pre to)
   asked =
-      qed W ((‵ (flft κ q) ⊛ ‵ ftrue) ∷ ‵ (owns (ShrSlice (named 0) κ u8 ∷ usize ∷ usize ∷ []) (d .journal, (d .at, (n, tt))) (three (d .journal) (d .at) n)) ∷ []) ∵
+      qed W ((‵ (flft κ q) ⊛ ‵ ftrue) ∷ ‵ (owns (ShrSlice (named 0) κ u8 ∷ usize ∷ usize ∷ [])
+      (d .journal, (d .at, (n, tt))) (three (d .journal) (d .at) n)) ∷ []) ∵
       join ! $ frame ! $ done !
 
   -- of the callee's `ensured`, the clause alone: it has no `&mut`, so what is said of last values is dropped
   said : (r : RefT (List ℕ)) → ent 𝓤 (ensured 𝓤 H A at.ended (at.clauses 𝓤 H A mem run) (κ, tt) (d .journal, (d .at, (n, tt))) tt r) (fact 𝓤 (Said r))
   said r = exE 𝓤 _ (λ ws. snd∗ 𝓤 (sem 𝓤 H A (lasts at.ended (κ, tt) (d .journal, (d .at, (n, tt))) ws)) (fact 𝓤 (Said r)))
 
-  exits : (r : RefT (List ℕ)) (u : Val) → Said r → ent 𝓤 (⋆ 𝓤 H A (‵ (ShrSlice (named 0) κ u8 .own r (u ∷ [])) ∷ (‵ (flft κ q) ⊛ ‵ ftrue) ∷ ‵ (Own κ d) ∷ [])) (Post u)
+  exits : (r : RefT (List ℕ)) (u : Val) → Said r
+      → ent 𝓤 (⋆ 𝓤 H A (‵ (ShrSlice (named 0) κ u8 .own r (u ∷ [])) ∷ (‵ (flft κ q) ⊛ ‵ ftrue) ∷ ‵ (Own κ d) ∷ [])) (Post u)
   exits r u e =
       qed W (‵ (ShrSlice (named 0) κ u8 .own r (u ∷ [])) ∷ (‵ (flft κ q) ⊛ ‵ ftrue) ∷ ‵ (Own κ d) ∷ []) ∵
       suffices ! _
@@ -114,7 +117,8 @@ module _ {M : Type 1} (𝓤 : URA M) (H : Heap 𝓤) (A : Atoms 𝓤) (W : Given
         alloc1 ! (λ l₀. alloc1 ! (λ l₁. alloc1 ! (λ l₂. alloc1 ! (λ l₃. alloc1 ! (λ l₄. alloc0 ! $ params1 ! $
         pass1 ! (init ! 6 refl wt) $ pass1 ! (init ! 4 refl (tt, record { fits = ok })) $ pass0 ! $
         assigns ! (of-opd ! (load ! (from ! (fld ! refl (stop !))) (look-in ! 6 (sub ! 0 refl (whole !))))) (from ! (stop !)) (init ! 2 refl (tt, wt .1 .0)) $
-        assigns ! (of-opd ! (load ! (from ! (fld ! refl (stop !))) (look-in ! 6 (sub ! 1 refl (whole !))))) (from ! (stop !)) (init ! 0 refl (tt, wt .1 .1 .0)) $
+        assigns ! (of-opd ! (load ! (from ! (fld ! refl (stop !))) (look-in ! 6 (sub ! 1 refl (whole !)))))
+        (from ! (stop !)) (init ! 0 refl (tt, wt .1 .1 .0)) $
         move ! (10 ∷ []) $
         use1 W (raw (OnThree 𝓤 H A W κ q (d .journal) (d .at) n) ⊛ ‵ (Own κ d)) (apart 𝓤 H A W κ q d n ok (wt .1 .1 .0 .fits)) $ split ! $
         use1 W (raw (PartAt 𝓤 H A mem run .pre to)) asked $

@@ -61,7 +61,6 @@ use types.Run.{
   free0,
 }
 use sound.WpLaws.{FmC, fmOf, WpFn-mono}
-use denote.RattleType.{owns}
 use denote.Laws.{Is, shows}
 use denote.Plain.{uint-vals, uint-tells, uint-makes}
 use denote.Builtin.{u8, usize}
@@ -104,7 +103,8 @@ module _ {M : Type 1} (𝓤 : URA M) (H : Heap 𝓤) (A : Atoms 𝓤) (mem : Mem
   abbrev HandedBack : Contract 𝓤
   HandedBack = tripleOf 𝓤 H A part.signature (part.spec 𝓤 H A mem run)
 
-module _ {M : Type 1} (𝓤 : URA M) (H : Heap 𝓤) (A : Atoms 𝓤) (W : Given 𝓤 H A) (mem : Memory → SProp 𝓤) (run : Routine → Fun 𝓤) (κ : Lft) (q : Share) (s : RefT (List ℕ)) (i n : ℕ) (iok : i < 2 ^ 64) (nok : n < 2 ^ 64) where
+module _ {M : Type 1} (𝓤 : URA M) (H : Heap 𝓤) (A : Atoms 𝓤) (W : Given 𝓤 H A) (mem : Memory → SProp 𝓤) (run : Routine → Fun 𝓤)
+    (κ : Lft) (q : Share) (s : RefT (List ℕ)) (i n : ℕ) (iok : i < 2 ^ 64) (nok : n < 2 ^ 64) where
   abbrev Post : Val → SProp 𝓤
   Post = walkOf 𝓤 H A part_from.ended stayed (part_from.clauses 𝓤 H A mem run) .post (((κ, tt), (q, tt), tt, (s, (i, (n, tt))), three s i n), tt)
 
@@ -125,7 +125,8 @@ module _ {M : Type 1} (𝓤 : URA M) (H : Heap 𝓤) (A : Atoms 𝓤) (W : Given
       → ent 𝓤 (ensured 𝓤 H A part.ended (part.clauses 𝓤 H A mem run) (κ, tt) (r, (n, tt)) tt t) (fact 𝓤 (Said r t))
   said r t = exE 𝓤 _ (λ ws. snd∗ 𝓤 (sem 𝓤 H A (lasts part.ended (κ, tt) (r, (n, tt)) ws)) (fact 𝓤 (Said r t)))
 
-  exits : (t : RefT (List ℕ)) (u : Val) → Part s i (partAt (now s) i n) t → ent 𝓤 (⋆ 𝓤 H A (‵ (ShrSlice (named 0) κ u8 .own t (u ∷ [])) ∷ (‵ (flft κ q) ⊛ ‵ ftrue) ∷ ‵ (OwnSlice κ s) ∷ [])) (Post u)
+  exits : (t : RefT (List ℕ)) (u : Val) → Part s i (partAt (now s) i n) t
+      → ent 𝓤 (⋆ 𝓤 H A (‵ (ShrSlice (named 0) κ u8 .own t (u ∷ [])) ∷ (‵ (flft κ q) ⊛ ‵ ftrue) ∷ ‵ (OwnSlice κ s) ∷ [])) (Post u)
   exits t u e =
       qed W (‵ (ShrSlice (named 0) κ u8 .own t (u ∷ [])) ∷ (‵ (flft κ q) ⊛ ‵ ftrue) ∷ ‵ (OwnSlice κ s) ∷ []) ∵
       suffices ! _
@@ -154,7 +155,8 @@ module _ {M : Type 1} (𝓤 : URA M) (H : Heap 𝓤) (A : Atoms 𝓤) (W : Given
         heard ! (Stands s i r) (λ e. split ! $ move ! (1 ∷ []) $
         -- [what the struct owns; the token; what s owns; room for the struct; …; the other locals, the last first]
         peeks ! (Row (κ, tt)) (Is (Row (κ, tt))) (shows 𝓤 H A (Row (κ, tt))) r (u ∷ []) (λ is.
-        land ! (from ! (stop !)) (init ! 3 refl (LL.lawful (T.the-type (record { mir = erased; lft = κ })) (T′.the-laws (record { mir = erased; lft = κ })) 𝓤 H A W .typed r _ is .0)) $
+        land ! (from ! (stop !))
+        (init ! 3 refl (LL.lawful (T.the-type (record { mir = erased; lft = κ })) (T′.the-laws (record { mir = erased; lft = κ })) 𝓤 H A W .typed r _ is .0)) $
         use2 W (raw (HandedBack 𝓤 H A mem run .pre (to r u))) (goes r u) $
         calls-at ! fm (HandedBack 𝓤 H A mem run) known-part (to r u)
         (and-then ! (load ! (from ! (stop !)) (look ! 2 refl)) (and-then ! (load ! (from ! (stop !)) (look ! 4 refl)) (no-more !))) (λ v.
@@ -170,7 +172,8 @@ module _ {M : Type 1} (𝓤 : URA M) (H : Heap 𝓤) (A : Atoms 𝓤) (W : Given
         free0 ! $ by ! (exits t v (rw (e .0, e .1) at e′)))))))))))))))
 
 module _ {M : Type 1} (𝓤 : URA M) (H : Heap 𝓤) (A : Atoms 𝓤) (W : Given 𝓤 H A) (mem : Memory → SProp 𝓤) (run : Routine → Fun 𝓤) where
-  part_from-walks : (C : Calls 𝓤 H) (Λ : Loops 𝓤 H) → FmC 𝓤 H (W .laws) C → Triple 𝓤 (C #reader·new) (New 𝓤 H A mem run) → Triple 𝓤 (C #reader·part) (HandedBack 𝓤 H A mem run)
+  part_from-walks : (C : Calls 𝓤 H) (Λ : Loops 𝓤 H) → FmC 𝓤 H (W .laws) C → Triple 𝓤 (C #reader·new) (New 𝓤 H A mem run)
+      → Triple 𝓤 (C #reader·part) (HandedBack 𝓤 H A mem run)
       → Walks 𝓤 H A part_from.ended stayed (WpFn 𝓤 H C Λ code.function) (part_from.clauses 𝓤 H A mem run)
   part_from-walks C Λ fm known-new known-part =
       walked 𝓤 H A part_from.ended stayed (part_from.clauses 𝓤 H A mem run) (WpFn 𝓤 H C Λ code.function)
@@ -183,8 +186,13 @@ part_from-meets : {M : Type 1} (𝓤 : URA M) (H : Heap 𝓤) (A : Atoms 𝓤) (
     → Triple 𝓤 (𝓣 .C #reader·new) (New 𝓤 H A mem run) → Triple 𝓤 (𝓣 .C #reader·part) (HandedBack 𝓤 H A mem run)
     → Meets 𝓤 H A part_from.signature (WpFn 𝓤 H (𝓣 .C) (𝓣 .Λ) code.function) (part_from.spec 𝓤 H A mem run)
 part_from-meets 𝓤 H A W mem run 𝓣 known-new known-part =
-    walk-meets 𝓤 H A part_from.ended stayed W
-    (goes-none-slice 𝓤 H A W 1 (0 ∷ []) tt (plain (λ _. u8)) yes, (goes-none 𝓤 H A W 1 (λ _. usize) yes (λ κs x f. refl), (goes-none 𝓤 H A W 1 (λ _. usize) yes (λ κs x f. refl), tt)))
+    walk-meets 𝓤 H A part_from.ended stayed W (
+      goes-none-slice 𝓤 H A W 1 (0 ∷ []) tt (plain (λ _. u8)) yes,
+      (
+        goes-none 𝓤 H A W 1 (λ _. usize) yes (λ κs x f. refl),
+        (goes-none 𝓤 H A W 1 (λ _. usize) yes (λ κs x f. refl), tt),
+      ),
+    )
     (part_from.clauses 𝓤 H A mem run) (WpFn 𝓤 H (𝓣 .C) (𝓣 .Λ) code.function) (WpFn-mono 𝓤 H (W .laws) 𝓣 code.function)
     (part_from-walks 𝓤 H A W mem run (𝓣 .C) (𝓣 .Λ) (fmOf 𝓤 H (W .laws) 𝓣) known-new known-part)
 

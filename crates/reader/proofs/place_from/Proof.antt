@@ -69,7 +69,6 @@ use types.Run.{
   free0,
 }
 use sound.WpLaws.{FmC, fmOf, WpFn-mono}
-use denote.RattleType.{owns}
 use denote.Laws.{Is, shows}
 use denote.Plain.{uint-vals, uint-tells, uint-makes}
 use denote.Builtin.{u8, usize}
@@ -112,7 +111,8 @@ module _ {M : Type 1} (𝓤 : URA M) (H : Heap 𝓤) (A : Atoms 𝓤) (mem : Mem
   abbrev Moved : Contract 𝓤
   Moved = tripleOf 𝓤 H A moved.signature (moved.spec 𝓤 H A mem run)
 
-module _ {M : Type 1} (𝓤 : URA M) (H : Heap 𝓤) (A : Atoms 𝓤) (W : Given 𝓤 H A) (mem : Memory → SProp 𝓤) (run : Routine → Fun 𝓤) (κ : Lft) (q : Share) (s : RefT (List ℕ)) (i n : ℕ) (iok : i < 2 ^ 64) (nok : n < 2 ^ 64) where
+module _ {M : Type 1} (𝓤 : URA M) (H : Heap 𝓤) (A : Atoms 𝓤) (W : Given 𝓤 H A) (mem : Memory → SProp 𝓤) (run : Routine → Fun 𝓤)
+    (κ : Lft) (q : Share) (s : RefT (List ℕ)) (i n : ℕ) (iok : i < 2 ^ 64) (nok : n < 2 ^ 64) where
   abbrev Post : Val → SProp 𝓤
   Post = walkOf 𝓤 H A place_from.ended stayed (place_from.clauses 𝓤 H A mem run) .post (((κ, tt), (q, tt), tt, (s, (i, (n, tt))), three s i n), tt)
 
@@ -170,7 +170,8 @@ module _ {M : Type 1} (𝓤 : URA M) (H : Heap 𝓤) (A : Atoms 𝓤) (W : Given
         heard ! (Stands s i r) (λ e. split ! $ move ! (1 ∷ []) $
         -- [what the struct owns; the token; what s owns; room for the struct; …; the other locals, the last first]
         peeks ! (Row (κ, tt)) (Is (Row (κ, tt))) (shows 𝓤 H A (Row (κ, tt))) r (u ∷ []) (λ is.
-        land ! (from ! (stop !)) (init ! 3 refl (LL.lawful (T.the-type (record { mir = erased; lft = κ })) (T′.the-laws (record { mir = erased; lft = κ })) 𝓤 H A W .typed r _ is .0)) $
+        land ! (from ! (stop !))
+        (init ! 3 refl (LL.lawful (T.the-type (record { mir = erased; lft = κ })) (T′.the-laws (record { mir = erased; lft = κ })) 𝓤 H A W .typed r _ is .0)) $
         use2 W (raw (Moved 𝓤 H A mem run .pre (to r u))) (goes r u) $
         calls-at ! fm (Moved 𝓤 H A mem run) known-moved (to r u)
         (and-then ! (load ! (from ! (stop !)) (look ! 2 refl)) (and-then ! (load ! (from ! (stop !)) (look ! 6 refl)) (no-more !))) (λ v.
@@ -179,7 +180,8 @@ module _ {M : Type 1} (𝓤 : URA M) (H : Heap 𝓤) (A : Atoms 𝓤) (W : Given
         split ! $ move ! (1 ∷ []) $ use1 W (raw (fact 𝓤 (Said r t))) (said r t) $ heard ! (Said r t) (λ e′. split ! $ move ! (1 ∷ []) $
         -- [the result; the token; what s owns; the locals, the last first]
         peeks ! (Row (κ, tt)) (Is (Row (κ, tt))) (shows 𝓤 H A (Row (κ, tt))) t (v ∷ []) (λ is′.
-        land ! (from ! (stop !)) (init ! 5 refl (LL.lawful (T.the-type (record { mir = erased; lft = κ })) (T′.the-laws (record { mir = erased; lft = κ })) 𝓤 H A W .typed t _ is′ .0)) $
+        land ! (from ! (stop !))
+        (init ! 5 refl (LL.lawful (T.the-type (record { mir = erased; lft = κ })) (T′.the-laws (record { mir = erased; lft = κ })) 𝓤 H A W .typed t _ is′ .0)) $
         rewrite ! 5 (λ (w : Val). ‵ (fat fullShare (T′.mir erased) l₄ 0 w)) (ap only (LL.tells (D κ) (L κ) t (v ∷ []) is′)) refl $
         assigns ! (of-opd ! (load ! (from ! (fld ! refl (stop !))) (look-in ! 5 (sub ! 1 refl (whole !))))) (from ! (stop !))
         (init ! 13 refl (tt, wt t (v ∷ []) is′ .1 .1 .0)) $
@@ -189,7 +191,8 @@ module _ {M : Type 1} (𝓤 : URA M) (H : Heap 𝓤) (A : Atoms 𝓤) (W : Given
         free0 ! $ drop ! $ by ! (exits (t .at) (wt t (v ∷ []) is′ .1 .1 .0 .fits) (rw (e .0, e .1) at (e′ .1)))))))))))))))))
 
 module _ {M : Type 1} (𝓤 : URA M) (H : Heap 𝓤) (A : Atoms 𝓤) (W : Given 𝓤 H A) (mem : Memory → SProp 𝓤) (run : Routine → Fun 𝓤) where
-  place_from-walks : (C : Calls 𝓤 H) (Λ : Loops 𝓤 H) → FmC 𝓤 H (W .laws) C → Triple 𝓤 (C #reader·new) (New 𝓤 H A mem run) → Triple 𝓤 (C #reader·moved) (Moved 𝓤 H A mem run)
+  place_from-walks : (C : Calls 𝓤 H) (Λ : Loops 𝓤 H) → FmC 𝓤 H (W .laws) C → Triple 𝓤 (C #reader·new) (New 𝓤 H A mem run)
+      → Triple 𝓤 (C #reader·moved) (Moved 𝓤 H A mem run)
       → Walks 𝓤 H A place_from.ended stayed (WpFn 𝓤 H C Λ code.function) (place_from.clauses 𝓤 H A mem run)
   place_from-walks C Λ fm known-new known-moved =
       walked 𝓤 H A place_from.ended stayed (place_from.clauses 𝓤 H A mem run) (WpFn 𝓤 H C Λ code.function)
@@ -202,8 +205,13 @@ place_from-meets : {M : Type 1} (𝓤 : URA M) (H : Heap 𝓤) (A : Atoms 𝓤) 
     → Triple 𝓤 (𝓣 .C #reader·new) (New 𝓤 H A mem run) → Triple 𝓤 (𝓣 .C #reader·moved) (Moved 𝓤 H A mem run)
     → Meets 𝓤 H A place_from.signature (WpFn 𝓤 H (𝓣 .C) (𝓣 .Λ) code.function) (place_from.spec 𝓤 H A mem run)
 place_from-meets 𝓤 H A W mem run 𝓣 known-new known-moved =
-    walk-meets 𝓤 H A place_from.ended stayed W
-    (goes-none-slice 𝓤 H A W 1 (0 ∷ []) tt (plain (λ _. u8)) yes, (goes-none 𝓤 H A W 1 (λ _. usize) yes (λ κs x f. refl), (goes-none 𝓤 H A W 1 (λ _. usize) yes (λ κs x f. refl), tt)))
+    walk-meets 𝓤 H A place_from.ended stayed W (
+      goes-none-slice 𝓤 H A W 1 (0 ∷ []) tt (plain (λ _. u8)) yes,
+      (
+        goes-none 𝓤 H A W 1 (λ _. usize) yes (λ κs x f. refl),
+        (goes-none 𝓤 H A W 1 (λ _. usize) yes (λ κs x f. refl), tt),
+      ),
+    )
     (place_from.clauses 𝓤 H A mem run) (WpFn 𝓤 H (𝓣 .C) (𝓣 .Λ) code.function) (WpFn-mono 𝓤 H (W .laws) 𝓣 code.function)
     (place_from-walks 𝓤 H A W mem run (𝓣 .C) (𝓣 .Λ) (fmOf 𝓤 H (W .laws) 𝓣) known-new known-moved)
 
