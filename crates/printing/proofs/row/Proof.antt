@@ -6,10 +6,10 @@ use lib.ListN.{length, getD, take}
 use lib.Seq.{take-all}
 use denote.Ref.{now}
 use Rattle.meaning.specs.Journals.{spaced}
-use Rattle.text.specs.Text.{Wrote}
-use Rattle.text.proofs.Writing.{wrote-none, wrote-as, wrote-then, take-more, spaced-none, spaced-more}
-use Rattle.text.proofs.row.Statement.{statement}
-use Rattle.text.proofs.row.Tie as tie
+use Rattle.printing.specs.Wrote.{Wrote}
+use Rattle.printing.proofs.Writing.{wrote-none, wrote-as, wrote-then, take-more, spaced-none, spaced-more}
+use Rattle.printing.proofs.row.Statement.{statement}
+use Rattle.printing.proofs.row.Tie as tie
 
 abbrev Inv-loop : tie.InvT-loop
 Inv-loop out₀ at vs next₀ i₀ out next i = (i ≤ length vs) × (length out ≡ length out₀) × Wrote out₀ at (spaced (take i vs)) (21 * i) next out
@@ -42,13 +42,13 @@ loop-less c = omega arith
 
 loop-again : tie.Need-loop-again Inv-loop μ-loop
 loop-again c =
-    let s = c .before .before .before .before .before .before .before .before .before in
-    let l = c .before .before .before .before .before .before .loop in (
-      omega arith,
-      omega arith,
-      wrote-as (sym (ap spaced (take-more (now (s .args .vs)) (l .i) (omega arith)) ∙ spaced-more (take (l .i) (now (s .args .vs))) (getD (now (s .args .vs)) (l .i) 0))) (omega arith)
-          (wrote-then (omega arith) (l .inv .2) (c .before .before .entry .ensures)),
-    )
+    let at-entry = c .before .before in
+    let at-loop = at-entry .before .before .before .before in
+    let s = at-loop .before .before .before in
+    let l = at-loop .loop in
+    let vs = now (s .args .vs) in
+    let more = ap spaced (take-more vs (l .i) (omega arith)) ∙ spaced-more (take (l .i) vs) (getD vs (l .i) 0) in
+    (omega arith, omega arith, wrote-as (sym more) (omega arith) (wrote-then (omega arith) (l .inv .2) (at-entry .entry .ensures)))
 
 same-length : tie.Need-same-length Inv-loop μ-loop
 same-length c = omega arith

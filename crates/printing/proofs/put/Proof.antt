@@ -1,9 +1,9 @@
 -- `put` writes one byte: the law `wrote-one`.
 use borrow.Author.Needs.{needs}
 use denote.Ref.{now}
-use Rattle.text.proofs.Writing.{wrote-one}
-use Rattle.text.proofs.put.Statement.{statement}
-use Rattle.text.proofs.put.Tie as tie
+use Rattle.printing.proofs.Writing.{wrote-one}
+use Rattle.printing.proofs.put.Statement.{statement}
+use Rattle.printing.proofs.put.Tie as tie
 
 slice-write-out : tie.Need-slice-write-out
 slice-write-out c = search needs

@@ -7,7 +7,7 @@ use native.Mathlib.Omega.{arith}
 use native.Mathlib.Decide.{decLt}
 use borrow.Author.Tests.{lt-ltb, le-ltb}
 use Rattle.meaning.specs.Journals.{decimalIn, decimal}
-use Rattle.text.specs.Text.{valueFrom}
+use Rattle.printing.specs.Wrote.{valueFrom}
 
 value-more : (v : ℕ) (cs : List ℕ) (c : ℕ) → valueFrom v (cs ++ (c ∷ [])) ≡ 10 * valueFrom v cs + (c - 48)
 unfolding valueFrom
@@ -15,7 +15,8 @@ value-more v [] c = refl
 value-more v (x ∷ cs) c = value-more (10 * v + (x - 48)) cs c
 
 -- of one digit more
-read-back-more : (k v : ℕ) → v < 10 ^ suc k → (v / 10 < 10 ^ k → valueFrom 0 (decimalIn k (v / 10)) ≡ v / 10) → Dec (v < 10) → valueFrom 0 (decimalIn (suc k) v) ≡ v
+read-back-more : (k v : ℕ) → v < 10 ^ suc k → (v / 10 < 10 ^ k → valueFrom 0 (decimalIn k (v / 10)) ≡ v / 10) → Dec (v < 10)
+    → valueFrom 0 (decimalIn (suc k) v) ≡ v
 unfolding valueFrom decimalIn
 read-back-more k v h shorter (yes l) = rw (lt-ltb v 10 l) (omega arith)
 read-back-more k v h shorter (no l) =

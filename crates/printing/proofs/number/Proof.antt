@@ -1,8 +1,8 @@
 -- `number` is `digits` with the definition's 20.
 use Rattle.meaning.specs.Journals.{decimal}
 use borrow.Author.Needs.{needs}
-use Rattle.text.proofs.number.Statement.{statement}
-use Rattle.text.proofs.number.Tie as tie
+use Rattle.printing.proofs.number.Statement.{statement}
+use Rattle.printing.proofs.number.Tie as tie
 
 digits-requires : tie.Need-digits-requires
 digits-requires c κs = search needs

@@ -5,10 +5,10 @@ use native.Mathlib.Omega.{arith}
 use lib.ListN.{length, take}
 use lib.Seq.{take-all}
 use denote.Ref.{now}
-use Rattle.text.specs.Text.{Wrote}
-use Rattle.text.proofs.Writing.{wrote-none, wrote-as, wrote-then, take-more}
-use Rattle.text.proofs.word.Statement.{statement}
-use Rattle.text.proofs.word.Tie as tie
+use Rattle.printing.specs.Wrote.{Wrote}
+use Rattle.printing.proofs.Writing.{wrote-none, wrote-as, wrote-then, take-more}
+use Rattle.printing.proofs.word.Statement.{statement}
+use Rattle.printing.proofs.word.Tie as tie
 
 abbrev Inv-loop : tie.InvT-loop
 Inv-loop out₀ at w next₀ i₀ out next i = (i ≤ length w) × (length out ≡ length out₀) × Wrote out₀ at (take i w) i next out
@@ -35,9 +35,12 @@ loop-less c = omega arith
 
 loop-again : tie.Need-loop-again Inv-loop μ-loop
 loop-again c =
-    let s = c .before .before .before .before .before .before .before .before .before in
-    let l = c .before .before .before .before .before .before .loop in
-    (omega arith, omega arith, wrote-as (sym (take-more (now (s .args .w)) (l .i) (omega arith))) (omega arith) (wrote-then (omega arith) (l .inv .2) (c .before .before .put .ensures)))
+    let at-put = c .before .before in
+    let at-loop = at-put .before .before .before .before in
+    let s = at-loop .before .before .before in
+    let l = at-loop .loop in
+    let more = take-more (now (s .args .w)) (l .i) (omega arith) in
+    (omega arith, omega arith, wrote-as (sym more) (omega arith) (wrote-then (omega arith) (l .inv .2) (at-put .put .ensures)))
 
 same-length : tie.Need-same-length Inv-loop μ-loop
 same-length c = omega arith

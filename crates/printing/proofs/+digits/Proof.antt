@@ -3,15 +3,15 @@ use Prim.Native.Nat.{ℕ, _<_}
 use mathlib.Core.Path.{sym}
 use native.Mathlib.Omega.{arith}
 use denote.Ref.{now}
-use Rattle.text.proofs.Writing.{wrote-none, wrote-then, wrote-as, digits-none, digits-one, digits-more}
+use Rattle.printing.proofs.Writing.{wrote-none, wrote-then, wrote-as, digits-none, digits-one, digits-more}
 use borrow.Fn.Kinds.{In}
 use borrow.Fn.PlainCycle.{Measures, is, falls, and}
-use Rattle.text.proofs.digits.Reads as digits
-use Rattle.text.proofs.digits.Kinds as digits-kinds
-use Rattle.text.proofs.+digits.Lts-digits as digits-lts
-use Rattle.text.proofs.put.Reads as put-reads
-use Rattle.text.proofs.+digits.{statement}
-use Rattle.text.proofs.+digits.Tie.{close}
+use Rattle.printing.proofs.digits.Reads as digits
+use Rattle.printing.proofs.digits.Kinds as digits-kinds
+use Rattle.printing.proofs.+digits.Lts-digits as digits-lts
+use Rattle.printing.proofs.put.Reads as put-reads
+use Rattle.printing.proofs.+digits.{statement}
+use Rattle.printing.proofs.+digits.Tie.{close}
 
 abbrev μ-digits : Measures 1 digits-kinds.ps ℕ
 μ-digits κs a = a .1 .1 .0
@@ -71,8 +71,11 @@ digits-returns-2 : (t : ℕ) → digits-lts.Need-returns-2 (
   digits.Post,
 ) (digits-at t) digits.Post
 digits-returns-2 t c =
-    let s = c .before .before .before .before .before .before .before in
-    wrote-as (sym (digits-one (s .args .most) (s .args .v) (c .before .before .before .before .before .if1 .left) (c .before .before .before .before .if2 .taken))) (omega arith) (c .before .before .put .ensures)
+    let at-put = c .before .before in
+    let at-if2 = at-put .before .before in
+    let at-if1 = at-if2 .before in
+    let s = at-if1 .before .before in
+    wrote-as (sym (digits-one (s .args .most) (s .args .v) (at-if1 .if1 .left) (at-if2 .if2 .taken))) (omega arith) (at-put .put .ensures)
 
 digits-sub-digits : (t : ℕ) → digits-lts.Need-sub-digits (
   put-reads.Asked,
@@ -112,7 +115,11 @@ digits-put-requires-2 : (t : ℕ) → digits-lts.Need-put-requires-2 (
   digits-below t,
   digits.Post,
 ) (digits-at t) digits.Post
-digits-put-requires-2 t c κs = omega (arith, c .before .before .before .digits .ensures .within, c .before .before .before .digits .kept .0, c .before .before .before .before .before .before .before .before .pre .1, c .before .before .before .before .before .before .if1 .left)
+digits-put-requires-2 t c κs =
+    let at-digits = c .before .before .before in
+    let at-if1 = at-digits .before .before .before in
+    let s = at-if1 .before .before in
+    omega (arith, at-digits .digits .ensures .within, at-digits .digits .kept .0, s .pre .1, at-if1 .if1 .left)
 
 digits-same-length-2 : (t : ℕ) → digits-lts.Need-same-length-2 (
   put-reads.Asked,
@@ -129,9 +136,13 @@ digits-returns-3 : (t : ℕ) → digits-lts.Need-returns-3 (
   digits.Post,
 ) (digits-at t) digits.Post
 digits-returns-3 t c =
-    let s = c .before .before .before .before .before .before .before .before .before .before .before in
-    wrote-as (sym (digits-more (s .args .most) (s .args .v) (c .before .before .before .before .before .before .before .before .before .if1 .left) (c .before .before .before .before .before .before .before .before .if2 .left))) (omega arith)
-    (wrote-then (omega arith) (c .before .before .before .before .before .before .digits .ensures) (c .before .before .put2 .ensures))
+    let at-put2 = c .before .before in
+    let at-digits = at-put2 .before .before .before .before in
+    let at-if2 = at-digits .before .before in
+    let at-if1 = at-if2 .before in
+    let s = at-if1 .before .before in
+    wrote-as (sym (digits-more (s .args .most) (s .args .v) (at-if1 .if1 .left) (at-if2 .if2 .left))) (omega arith)
+    (wrote-then (omega arith) (at-digits .digits .ensures) (at-put2 .put2 .ensures))
 
 pub +digits-spec : {M : Type 1} → statement M
 +digits-spec = close μ-digits λ t. digits-lts.spec (
