@@ -17,8 +17,8 @@ use Rattle.meaning.specs.Steps.{clockBack, noRoom, acted, reported, refusal}
 use Rattle.meaning.proofs.TableLaws.{Sound, node-shaped}
 use Rattle.meaning.proofs.StepLaws.{opened-shaped, session-refusal, refuse, accept}
 use Rattle.looks.specs.Applied.{Applied}
-use Rattle.sides.specs.Begun.{begun, Starts}
-use Rattle.sessions.specs.Met.{Exchanged, Meets, Traded}
+use Rattle.openings.specs.Begun.{begun, Starts}
+use Rattle.exchanges.specs.Met.{Exchanged, Meets, Traded}
 use borrow.Author.Needs.{needs}
 use Rattle.sessions.proofs.meet.Statement.{statement}
 use Rattle.sessions.proofs.meet.Tie as tie
