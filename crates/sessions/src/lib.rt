@@ -5,50 +5,11 @@ ghost use Prim.Native.Nat.{_≤_, _<_};
 ghost use Rattle.meaning.specs.Table.{count, Sound};
 ghost use Rattle.meaning.specs.declared.Action.the-variants.{Session};
 ghost use Rattle.looks.specs.Applied.{Applied};
-ghost use Rattle.sessions.specs.Met.{Exchanged, Meets};
-use looks::held_of;
+use exchanges::exchange;
 use looks::nodes_of;
 use looks::own_of;
 use meaning::Reply;
-use sides::finishes;
-use sides::opening;
-use sides::overfills;
-use sides::side;
-
-// The session between two nodes whose readings are in order: refused with 6, or both sides done, each from the starting values. b is
-// shown as many of a's records as a began with.
-fn exchange(
-    t: &mut [u32],
-    outcome: u8,
-    a: usize,
-    b: usize,
-    sa: &[u32],
-    ka: &[u32],
-    sb: &[u32],
-    kb: &[u32],
-) -> Reply
-    requires { ⌜ Meets (now t) a b (now sa) (now ka) (now sb) (now kb) ⌝ }
-    ensures { λ r. ⌜ Exchanged (now (t .entry)) outcome a b (now (sa .entry)) (now (ka .entry)) (now (sb .entry)) (now (kb .entry)) r (now (t .exit)) ⌝ }
-{
-    let to_a = finishes(outcome, 1);
-    let to_b = finishes(outcome, 2);
-    let held_a = held_of(t, a);
-    let held_b = held_of(t, b);
-    if overfills(t, to_a, b, sa, held_a, held_b) {
-        return Reply::Refused { number: 6 };
-    }
-    if overfills(t, to_b, a, sb, held_b, held_a) {
-        return Reply::Refused { number: 6 };
-    }
-    let now_a = side(t, to_a, a, b, sa, ka, sb, kb, held_a, held_b);
-    let now_b = side(t, to_b, b, a, sb, kb, sa, ka, held_b, held_a);
-    let came_a = (now_a - held_a) as u32;
-    let came_b = (now_b - held_b) as u32;
-    Reply::Carried {
-        a: came_a,
-        b: came_b,
-    }
-}
+use openings::opening;
 
 // The session between two different nodes of the table, its outcome known to be at most 3: refused with 5 or 6, or done.
 fn meet(t: &mut [u32], a: usize, b: usize, ca: u32, cb: u32, outcome: u8) -> Reply

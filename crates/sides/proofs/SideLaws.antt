@@ -2,33 +2,20 @@
 use mathlib.Core.Path.{_≡_, refl, sym, ap, _∙_}
 use mathlib.Core.Bool.{Bool, true, false, _&&_}
 use mathlib.Core.List.{List, _++_}
-use Prim.Native.Nat.{ℕ, _+_, _*_, _≤_, _<_}
+use Prim.Native.Nat.{ℕ, _+_, _<_}
 use native.Mathlib.Omega.{arith}
 use borrow.Author.Tests.{ltb-false}
 use lib.ListN.{length, length-append}
 use lib.Dec.{ltb}
 use Rattle.meaning.specs.declared.Record.{Record}
-use Rattle.meaning.specs.Rows.{newer, raise, recordAt, records, all}
-use Rattle.meaning.specs.Table.{logMost, logAt, summaryAt, acksAt, part, place, count, held, node, recordSound, Sound}
+use Rattle.meaning.specs.Rows.{newer, raise}
+use Rattle.meaning.specs.Table.{logMost, summaryAt, acksAt, place, count, held, node, Sound}
 use Rattle.meaning.specs.Node.{finished}
 use Rattle.meaning.specs.Steps.{overfull, carried}
-use Rattle.meaning.proofs.RowLaws.{all-row, every-all, every-records}
 use Rattle.meaning.proofs.TableLaws.{held-log}
 use Rattle.meaning.proofs.PutLaws.{put-grown, grown-none, settle-put}
-use Rattle.sides.specs.Begun.{begun, came, crowds, grown, heldLog, rowsPut, sided}
-
--- the whole log is its held records
-pub whole-log : (t : List ℕ) (q k : ℕ) → k ≡ held t q → heldLog t q k ≡ node t q .log
-unfolding node
-whole-log t q k e = ap (λ (m : ℕ). records m (part (logAt q) (4 * logMost) t)) e
-
--- each of a node's records is right, so those that a side is shown are
-pub right-log : (t : List ℕ) → Sound t → (q k : ℕ) → q < count t → k ≤ held t q → all (recordSound (count t)) (heldLog t q k) ≡ true
-unfolding node
-right-log t s q k h g =
-    sym (every-records k (recordSound (count t)) (part (logAt q) (4 * logMost) t)) ∙
-    every-all k (λ i. recordSound (count t) (recordAt (part (logAt q) (4 * logMost) t) i))
-    (λ i l. all-row (recordSound (count t)) (held t q) (part (logAt q) (4 * logMost) t) (s .right q h) i (omega arith))
+use Rattle.openings.specs.Begun.{begun, crowds}
+use Rattle.sides.specs.Ended.{came, grown, rowsPut, sided}
 
 -- a side's room, in terms of its node
 pub crowd :

@@ -14,8 +14,8 @@ use Rattle.meaning.specs.Steps.{acted, reported}
 use Rattle.meaning.proofs.TableLaws.{node-shaped}
 use Rattle.meaning.proofs.StepLaws.{opened-shaped, session-is-5-a, session-is-5-b, session-is-6, session-is-0, refuse, accept}
 use Rattle.looks.specs.Applied.{Applied}
-use Rattle.sides.specs.Begun.{begun, Starts}
-use Rattle.sessions.specs.Met.{crowded, Exchanged, Meets, Traded}
+use Rattle.openings.specs.Begun.{begun, Starts}
+use Rattle.exchanges.specs.Met.{crowded, Exchanged, Meets, Traded}
 use borrow.Author.Needs.{needs}
 use Rattle.sessions.proofs.meet.Statement.{statement}
 use Rattle.sessions.proofs.meet.Tie as tie

@@ -4,7 +4,7 @@ use mathlib.Core.Bool.{Bool}
 use mathlib.Core.List.{List}
 use Prim.Native.Nat.{ℕ}
 use Rattle.meaning.specs.Table.{place, summaryAt, acksAt}
-use Rattle.sides.specs.Begun.{merged, rowsPut}
+use Rattle.sides.specs.Ended.{merged, rowsPut}
 use borrow.Author.Needs.{needs}
 use Rattle.sides.proofs.merge.Statement.{statement}
 use Rattle.sides.proofs.merge.Tie as tie

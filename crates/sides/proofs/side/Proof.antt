@@ -6,7 +6,8 @@ use Prim.Native.Nat.{ℕ, _+_}
 use native.Mathlib.Omega.{arith}
 use lib.ListN.{length}
 use Rattle.meaning.specs.Table.{node}
-use Rattle.sides.specs.Begun.{heldLog, rowsPut, Merges, Sided, Sides, Takes, Took}
+use Rattle.openings.specs.Begun.{heldLog}
+use Rattle.sides.specs.Ended.{rowsPut, Merges, Sided, Sides, Takes, Took}
 use Rattle.sides.proofs.SideLaws.{crowd, came-carried, side-put}
 use borrow.Author.Needs.{needs}
 use Rattle.sides.proofs.side.Statement.{statement}

@@ -11,8 +11,9 @@ use Rattle.meaning.specs.Rows.{newer, words}
 use Rattle.meaning.specs.Table.{tableWords, nodesMost, logMost, held, place, heldAt, logAt}
 use Rattle.meaning.proofs.PutLaws.{grown-none}
 use Rattle.logs.specs.Carry.{logRecords, CarriesAll, Puts}
-use Rattle.sides.specs.Begun.{crowds, heldLog, Takes, Took}
-use Rattle.sides.proofs.SideLaws.{right-log}
+use Rattle.openings.specs.Begun.{crowds, heldLog}
+use Rattle.openings.proofs.LogLaws.{right-log}
+use Rattle.sides.specs.Ended.{Takes, Took}
 use borrow.Author.Needs.{needs}
 use Rattle.sides.proofs.take.Statement.{statement}
 use Rattle.sides.proofs.take.Tie as tie

@@ -1,4 +1,4 @@
--- `sides::overfills` meets its contract: the held number and the newer records counted.
+-- `openings::overfills` meets its contract: the held number and the newer records counted.
 use mathlib.Core.Path.{_≡_, refl, ap, ap₂, sym, _∙_}
 use mathlib.Core.Bool.{Bool, true, false, _&&_}
 use mathlib.Core.List.{List}
@@ -11,11 +11,11 @@ use Rattle.meaning.specs.Rows.{newer, records, all}
 use Rattle.meaning.specs.Table.{logMost, part, logAt, recordSound}
 use Rattle.meaning.proofs.PlaceLaws.{length-part}
 use Rattle.meaning.proofs.RowLaws.{length-newer, length-records}
-use Rattle.sides.specs.Begun.{crowds, heldLog, Shows}
-use Rattle.sides.proofs.SideLaws.{right-log}
+use Rattle.openings.specs.Begun.{crowds, heldLog, Shows}
+use Rattle.openings.proofs.LogLaws.{right-log}
 use borrow.Author.Needs.{needs}
-use Rattle.sides.proofs.overfills.Statement.{statement}
-use Rattle.sides.proofs.overfills.Tie as tie
+use Rattle.openings.proofs.overfills.Statement.{statement}
+use Rattle.openings.proofs.overfills.Tie as tie
 
 off : (f x : Bool) → f ≡ false → false ≡ (f && x)
 off f x e = rw e

@@ -1,4 +1,4 @@
--- `sides::opening` meets its contract: both rows are the node's with the own entry changed.
+-- `openings::opening` meets its contract: both rows are the node's with the own entry changed.
 use mathlib.Core.Path.{_≡_, ap, ap₂, _∙_}
 use mathlib.Core.List.{List}
 use Prim.Native.Nat.{ℕ, _-_, _≤_, _<_}
@@ -9,10 +9,10 @@ use Rattle.meaning.specs.Rows.{least}
 use Rattle.meaning.specs.Table.{nodesMost, part, node, count, summaryAt, acksAt, Sound}
 use Rattle.meaning.specs.Node.{opened}
 use Rattle.meaning.proofs.PutLaws.{part-part}
-use Rattle.sides.specs.Begun.{Starts}
+use Rattle.openings.specs.Begun.{Starts}
 use borrow.Author.Needs.{needs}
-use Rattle.sides.proofs.opening.Statement.{statement}
-use Rattle.sides.proofs.opening.Tie as tie
+use Rattle.openings.proofs.opening.Statement.{statement}
+use Rattle.openings.proofs.opening.Tie as tie
 
 -- the first n entries of a whole row that was changed in one of them
 first : (t w : List ℕ) (at n i v : ℕ) → n ≤ nodesMost → i < n → w ≡ set (part at nodesMost t) i v → take n w ≡ set (part at n t) i v

@@ -1,32 +1,15 @@
--- What a side of a session begins with, as the code keeps it: its starting summary and acknowledgement row. What the functions of a side
--- require, and what they settle.
+-- One side of a session: what its functions require, and what they settle.
 use mathlib.Core.Path.{_≡_}
-use mathlib.Core.Bool.{Bool, true, false, _&&_}
+use mathlib.Core.Bool.{Bool, true, false}
 use mathlib.Core.List.{List, [], _∷_}
 use Prim.Native.Nat.{ℕ, _+_, _*_, _≤_, _<_}
-use lib.ListN.{length, take}
-use lib.Dec.{ltb}
+use lib.ListN.{length}
 use Rattle.meaning.specs.declared.Record.{Record}
-use Rattle.meaning.specs.Rows.{newer, raise, records, words}
-use Rattle.meaning.specs.Table.{Node, tableWords, nodesMost, logMost, summaryAt, acksAt, heldAt, logAt, part, place, count, held, node, putNode, Sound}
-use Rattle.meaning.specs.Node.{opened, ended}
+use Rattle.meaning.specs.Rows.{newer, raise, words}
+use Rattle.meaning.specs.Table.{Node, tableWords, nodesMost, logMost, summaryAt, acksAt, heldAt, logAt, place, count, held, node, putNode, Sound}
+use Rattle.meaning.specs.Node.{ended}
 use Rattle.meaning.specs.Steps.{overfull, carried}
-
--- the node that a side's starting rows and a log make
-abbrev pub begun : List ℕ → List ℕ → List Record → Node
-begun summary acks log = record { summary = summary; acks = acks; log = log }
-
--- the first n entries of two rows are the starting values of node p
-abbrev pub Starts : List ℕ → ℕ → ℕ → ℕ → List ℕ → List ℕ → Type 0
-Starts t p n reading summary acks = begun (take n summary) (take n acks) (node t p .log) ≡ opened p reading (node t p)
-
--- the first k records of node q's log
-abbrev pub heldLog : List ℕ → ℕ → ℕ → List Record
-heldLog t q k = records k (part (logAt q) (4 * logMost) t)
-
--- a side with so many records that finishes would hold more than 64, those of a log that are newer than a row among them
-abbrev pub crowds : Bool → List ℕ → ℕ → List Record → Bool
-crowds finishes known had log = finishes && ltb logMost (had + length (newer known log))
+use Rattle.openings.specs.Begun.{begun, crowds, heldLog}
 
 -- what of a log a side takes, comparing with a row: the newer records if it finishes
 abbrev pub came : Bool → List ℕ → List Record → List Record
@@ -49,14 +32,6 @@ rowsPut finishes p sp kp sq kq t = place (summaryAt p) (merged finishes sp sq) (
 -- the table after one side, p, that begins as x, its partner as y
 abbrev pub sided : Bool → ℕ → Node → Node → List ℕ → List ℕ
 sided finishes p x y t = putNode p (ended finishes x y) t
-
--- A node of a sound table, a row with an entry for each node, how many records the side has and how many of the node's it is shown
-pub record Shows (t : List ℕ) (q : ℕ) (known : List ℕ) (had shown : ℕ) : Type 0 where
-  pub isSound : Sound t
-  pub there : q < count t
-  pub long : length known ≡ count t
-  pub most : had ≤ logMost
-  pub theirs : shown ≤ held t q
 
 -- Two nodes of a sound table, a row with an entry for each node, how many records p has, how many of q's it is shown, and room for what comes
 pub record Takes (t : List ℕ) (f : Bool) (p q : ℕ) (known : List ℕ) (had shown : ℕ) : Type 0 where

@@ -12,9 +12,11 @@ use Rattle.meaning.specs.Node.{ended}
 use Rattle.meaning.specs.Steps.{finishesA, finishesB, overfull, carried}
 use Rattle.meaning.proofs.TableLaws.{held-log, node-shaped, put-held}
 use Rattle.meaning.proofs.StepLaws.{taken, ended-log, ended-shaped, once-sound, once-count, once-held, once-log, once-began}
-use Rattle.sides.specs.Begun.{begun, crowds, heldLog, sided, Shows, Sided, Sides}
-use Rattle.sides.proofs.SideLaws.{whole-log, crowd}
-use Rattle.sessions.specs.Met.{crowded, Exchanged, Meets, Traded}
+use Rattle.openings.specs.Begun.{begun, crowds, heldLog, Shows}
+use Rattle.openings.proofs.LogLaws.{whole-log}
+use Rattle.sides.specs.Ended.{sided, Sided, Sides}
+use Rattle.sides.proofs.SideLaws.{crowd}
+use Rattle.exchanges.specs.Met.{crowded, Exchanged, Meets, Traded}
 
 pub turned : {t : List ℕ} {a b : ℕ} {sa ka sb kb : List ℕ} → Meets t a b sa ka sb kb → Meets t b a sb kb sa ka
 turned m = record { isSound = m .isSound; hereA = m .hereB; hereB = m .hereA; apart = λ e. m .apart (sym e); longA = m .longB; longB = m .longA }

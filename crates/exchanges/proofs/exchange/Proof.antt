@@ -1,10 +1,10 @@
--- `sessions::exchange` meets its contract: 6 where one side would hold too many, or side a, then side b, which still finds what a began with.
+-- `exchanges::exchange` meets its contract: 6 where one side would hold too many, or side a, then side b, which still finds what a began with.
 use mathlib.Core.Path.{refl, _∙_}
 use mathlib.Core.Bool.{true, false}
-use Rattle.sessions.proofs.Trade.{turned, refusedA, refusedB, shows, room, first, second, traded}
+use Rattle.exchanges.proofs.Trade.{turned, refusedA, refusedB, shows, room, first, second, traded}
 use borrow.Author.Needs.{needs}
-use Rattle.sessions.proofs.exchange.Statement.{statement}
-use Rattle.sessions.proofs.exchange.Tie as tie
+use Rattle.exchanges.proofs.exchange.Statement.{statement}
+use Rattle.exchanges.proofs.exchange.Tie as tie
 
 finishes-requires : tie.Need-finishes-requires
 finishes-requires c κs = search needs

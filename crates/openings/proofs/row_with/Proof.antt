@@ -1,4 +1,4 @@
--- `sides::row_with` meets its contract: the row copied, then one word of it changed.
+-- `openings::row_with` meets its contract: the row copied, then one word of it changed.
 use mathlib.Core.Path.{_≡_, ap, _∙_}
 use mathlib.Core.List.{List}
 use Prim.Native.Nat.{ℕ, _+_, _-_}
@@ -6,8 +6,8 @@ use native.Mathlib.Omega.{arith}
 use lib.ListN.{take, drop, set}
 use Rattle.meaning.specs.Table.{part, nodesMost}
 use borrow.Author.Needs.{needs}
-use Rattle.sides.proofs.row_with.Statement.{statement}
-use Rattle.sides.proofs.row_with.Tie as tie
+use Rattle.openings.proofs.row_with.Statement.{statement}
+use Rattle.openings.proofs.row_with.Tie as tie
 
 changed : (t w : List ℕ) (at i v : ℕ) → w ≡ take ((at + nodesMost) - at) (drop at t) → set w i v ≡ set (part at nodesMost t) i v
 unfolding part

@@ -1,7 +1,7 @@
--- `sides::finishes` meets its contract: the first test, or else the second.
+-- `openings::finishes` meets its contract: the first test, or else the second.
 use borrow.Author.Tests.{eq-eqb, ne-eqb}
-use Rattle.sides.proofs.finishes.Statement.{statement}
-use Rattle.sides.proofs.finishes.Tie as tie
+use Rattle.openings.proofs.finishes.Statement.{statement}
+use Rattle.openings.proofs.finishes.Tie as tie
 
 returns : tie.Need-returns
 returns c = rw (eq-eqb (c .before .args .outcome) (c .before .args .only) (c .if1 .taken))

@@ -8,7 +8,8 @@ use Rattle.meaning.specs.declared.Reply.{Reply}
 use Rattle.meaning.specs.declared.Reply.the-variants.{Carried, Refused}
 use Rattle.meaning.specs.Table.{Node, count, node, Sound}
 use Rattle.meaning.specs.Steps.{finishesA, finishesB, overfull, carried}
-use Rattle.sides.specs.Begun.{begun, sided}
+use Rattle.openings.specs.Begun.{begun}
+use Rattle.sides.specs.Ended.{sided}
 
 -- Two nodes of a sound table, with their starting rows
 pub record Meets (t : List ℕ) (a b : ℕ) (sa ka sb kb : List ℕ) : Type 0 where
