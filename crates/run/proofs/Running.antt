@@ -18,7 +18,7 @@ use Rattle.meaning.specs.declared.Next.the-variants.{Begin as BeginAt, Act as A
 use Rattle.meaning.specs.declared.Outcome.{Outcome}
 use Rattle.meaning.specs.declared.Outcome.the-variants.{Bad, Done}
 use Rattle.meaning.specs.Steps.{refusal, reported, replied, reply, after}
-use Rattle.meaning.specs.Table.{tableWords, nodesMost, countRight, fresh, freshRefusal, madeFresh, Sound}
+use Rattle.meaning.specs.Table.{tableWords, nodesMost, countRight, fresh, madeFresh, Sound}
 use Rattle.meaning.specs.Journals.{Steps, Journal, none, broken, step∷, oneIf, nextAt, stepsFrom, journal}
 use Rattle.meaning.specs.Journals.{afterAll, refusedOf, outcomeOf, replayed, startedFrom, replayAfter}
 use Rattle.meaning.proofs.Action as A
