@@ -1,4 +1,6 @@
 // What a case prints: its name, then what the library answered.
+ghost use Prim.Native.Nat.{_≤_};
+ghost use Rattle.meaning.specs.Table.{nodesMost};
 use meaning::Action;
 use meaning::Line;
 use meaning::Reply;
@@ -26,11 +28,23 @@ fn digest(t: &[u32]) -> u64 {
     sum
 }
 
-// "and the held number" of each node below the count, of which a list of words has 16 at most.
-fn held(t: &[u32]) {
+// How many nodes have a held number to print: those below the count, of which a table has 16 at most.
+fn nodes(t: &[u32]) -> usize
+    ensures { λ r. ⌜ r ≤ nodesMost ⌝ }
+{
     let n = word(t, layout::COUNT_AT) as usize;
+    if n < layout::NODES_MOST {
+        n
+    } else {
+        layout::NODES_MOST
+    }
+}
+
+// Each node's held number.
+fn held(t: &[u32]) {
+    let n = nodes(t);
     let mut p: usize = 0;
-    while p < n && p < layout::NODES_MOST {
+    while p < n {
         field(b" ", word(t, layout::held_at(p)));
         p += 1;
     }

@@ -61,7 +61,9 @@ fn answer(found: Next, part: &[u8]) {
         Next::Begin { n, next: _ } => start(n, part),
         Next::Act { step: x, next: _ } => step(x, part),
         Next::Refused { number } => say::field(b"refusal ", number),
-        Next::End => io::write_all(1, b"the end"),
+        Next::End => {
+            io::write_all(1, b"the end");
+        }
     }
 }
 
