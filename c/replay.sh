@@ -85,7 +85,8 @@ replayed() {
     case $text in
     'N '*) status=0 lines=${text#N } && lines=$((${lines%% *} + 1)) ;;
     'BAD '*) status=1 lines=1 ;;
-    *) exit 2 ;; # the program has said why
+    '') exit 2 ;; # the program has said why
+    *) wrong 'the program wrote something that is no result' ;;
     esac
     [ "$(printf '%s' "$text" | wc -l)" -eq "$lines" ] || wrong 'there was no room to keep all of the text'
     shown "$text"
