@@ -55,12 +55,20 @@ fn step(step: Step, part: &[u8]) {
     compared(&out, framed, part);
 }
 
+// A refusal, and the line that is refused: the reader's part is empty then, the finder's is the line, or empty where no LF ends one.
+fn refused(s: &[u8], at: usize, number: u32) {
+    say::field(b"refusal ", number);
+    io::write_all(1, b" of '");
+    io::write_all(1, journal::line(s, at));
+    io::write_all(1, b"'");
+}
+
 // What the reader found.
-fn answer(found: Next, part: &[u8]) {
+fn answer(s: &[u8], at: usize, found: Next, part: &[u8]) {
     match found {
         Next::Begin { n, next: _ } => start(n, part),
         Next::Act { step: x, next: _ } => step(x, part),
-        Next::Refused { number } => say::field(b"refusal ", number),
+        Next::Refused { number } => refused(s, at, number),
         Next::End => {
             io::write_all(1, b"the end");
         }
@@ -76,7 +84,7 @@ fn one(s: &[u8], at: usize, line: usize) -> usize {
     place(b" to ", to);
     io::write_all(1, b": ");
     io::write_all(1, part);
-    answer(reader::next_from(s, at, line), part);
+    answer(s, at, reader::next_from(s, at, line), part);
     io::write_all(1, b"\n");
     to
 }
