@@ -1,11 +1,16 @@
 //! The benchmark: the proved library, a plain C version written for speed (under two compilers) and
 //! the independent Rust implementation, on the same inputs, in one run, by turns. It prints a table
-//! of medians, the ratio to the better of the others, and the spread.
+//! of medians, the ratio to the better of the others, and the spread. A row's name says its case (what
+//! is done, on how large a table) and stays when a request changes what the case costs; a new case is a
+//! new row.
 
+#[path = "../tests/rust/src/layout.rs"]
+mod layout;
 #[path = "../tests/rust/src/model.rs"]
 mod model;
 
-use model::{Action, Table, WORDS};
+use layout::{JOURNAL, TEXT, WORDS};
+use model::{Action, Table};
 use std::hint::black_box;
 use std::time::Instant;
 
@@ -266,12 +271,12 @@ fn steps(rows: &mut Vec<Row>) {
 fn journal(rows: &mut Vec<Row>, name: &str, n: u8, actions: &[Action], per: usize) {
     let mut text = model::start_frame(n);
     actions.iter().for_each(|action| text.extend(model::frame(*action).unwrap()));
-    assert!(text.len() <= model::JOURNAL);
+    assert!(text.len() <= JOURNAL);
     let printed = model::replay(&text).0;
     let mut samples: Vec<Box<dyn FnMut() -> f64>> = Vec::new();
     for api in apis() {
         let (text, printed) = (text.clone(), printed.clone());
-        let (mut table, mut out) = (vec![0u32; WORDS], vec![0u8; 12288]);
+        let (mut table, mut out) = (vec![0u32; WORDS], vec![0u8; TEXT]);
         samples.push(Box::new(move || {
             let began = Instant::now();
             let length = unsafe { (api.replay)(black_box(text.as_ptr()), text.len(), table.as_mut_ptr(), WORDS, out.as_mut_ptr(), out.len()) };
@@ -318,7 +323,7 @@ fn journals(rows: &mut Vec<Row>) {
         .parse()
         .unwrap();
     eprintln!("the full journal: {} steps, {refused} refused", mixed.len());
-    journal(rows, "the run of a full journal (7 nodes, 2400 steps)", 7, &mixed, 1);
+    journal(rows, "the run of a full journal", 7, &mixed, 1);
 }
 
 fn counts(rows: &mut Vec<Row>) {
@@ -351,6 +356,9 @@ fn main() {
     steps(&mut rows);
     journals(&mut rows);
     counts(&mut rows);
+    // a row is known by its name, from one request to the next: a name is never given twice, nor to another case
+    let names: std::collections::BTreeSet<&str> = rows.iter().map(|row| row.name.as_str()).collect();
+    assert_eq!(names.len(), rows.len(), "two rows with one name");
     // words on the command line choose the rows whose name has one of them
     let chosen: Vec<String> = std::env::args().skip(1).collect();
     rows.retain(|row| chosen.is_empty() || chosen.iter().any(|word| row.name.contains(word)));

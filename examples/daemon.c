@@ -13,7 +13,7 @@ static uint32_t table[POLLENCART_TABLE];
 static void refused(const char *what, uint32_t number)
 {
     if (number) {
-        fprintf(stderr, "%s refused with %" PRIu32 "\n", what, number);
+        fprintf(stderr, "%s refused with %" PRIu32 ": %s\n", what, number, pollencart_refusal_text(number));
         exit(1);
     }
 }
@@ -28,12 +28,12 @@ static void finding(uint8_t node, uint32_t timestamp, uint32_t block, uint8_t ve
 
     size_t line = length - 1; /* the readers take the line without its LF */
     refused("line", pollencart_check(frame, line));
-    if (pollencart_kind(frame, line) == 1)
+    if (pollencart_kind(frame, line) == POLLENCART_KIND_WRITE)
         refused("write", pollencart_write(table, POLLENCART_TABLE, (uint8_t)pollencart_field(frame, line, 0), pollencart_field(frame, line, 1),
                                           pollencart_field(frame, line, 2), (uint8_t)pollencart_field(frame, line, 3)));
 }
 
-/* Two nodes meet at a clock reading; outcome 3 finishes both sides, 0 to 2 say where it was cut. */
+/* Two nodes meet at a clock reading; the outcome says which sides finished. */
 static void meet(uint8_t a, uint8_t b, uint32_t now, uint8_t outcome)
 {
     uint32_t to_a, to_b;
@@ -60,29 +60,29 @@ int main(void)
 {
     refused("fresh", pollencart_fresh(table, POLLENCART_TABLE, NODES));
 
-    finding(0, 5, 4096, 0x20);  /* read from platter, good */
-    finding(0, 7, 4097, 0x10);  /* answered from page cache */
-    finding(1, 6, 9001, 0x30);  /* read from platter, bad */
-    finding(1, 9, 9001, 0x40);  /* repaired and read back */
-    finding(2, 8, 70000, 0x12); /* answered from page cache */
+    finding(0, 5, 4096, POLLENCART_VERDICT_GOOD);
+    finding(0, 7, 4097, POLLENCART_VERDICT_CACHE);
+    finding(1, 6, 9001, POLLENCART_VERDICT_BAD);
+    finding(1, 9, 9001, POLLENCART_VERDICT_REPAIRED);
+    finding(2, 8, 70000, POLLENCART_VERDICT_CACHE + 2); /* any byte of the class */
 
-    meet(0, 1, 10, 3);
-    meet(1, 2, 11, 1); /* cut: only node 1 took the records */
-    meet(1, 2, 12, 3);
-    meet(0, 2, 13, 3);
+    meet(0, 1, 10, POLLENCART_FINISH_BOTH);
+    meet(1, 2, 11, POLLENCART_FINISH_A); /* cut: only node 1 took the records */
+    meet(1, 2, 12, POLLENCART_FINISH_BOTH);
+    meet(0, 2, 13, POLLENCART_FINISH_BOTH);
     for (uint8_t node = 0; node < NODES; node++)
         count(node);
 
     purge(0); /* nothing leaves while a node may not know it */
     for (uint32_t round = 0; round < 2; round++) {
-        meet(0, 1, 14 + 3 * round, 3);
-        meet(1, 2, 15 + 3 * round, 3);
-        meet(0, 2, 16 + 3 * round, 3);
+        meet(0, 1, 14 + 3 * round, POLLENCART_FINISH_BOTH);
+        meet(1, 2, 15 + 3 * round, POLLENCART_FINISH_BOTH);
+        meet(0, 2, 16 + 3 * round, POLLENCART_FINISH_BOTH);
     }
     for (uint8_t node = 0; node < NODES; node++)
         purge(node);
 
-    uint32_t late = pollencart_write(table, POLLENCART_TABLE, 0, 3, 1, 0x20);
+    uint32_t late = pollencart_write(table, POLLENCART_TABLE, 0, 3, 1, POLLENCART_VERDICT_GOOD);
     printf("a write at 3, behind node 0's entry of %" PRIu32 ": refused with %" PRIu32 "\n", pollencart_summary(table, POLLENCART_TABLE, 0, 0), late);
     return 0;
 }

@@ -1,10 +1,19 @@
-/* pollencart.h: the proved exchange of scrubber findings, for C.
+/* pollencart.h: the proved exchange of scrubber findings, for C. docs/PROTOCOL.md says what tables, steps, frames and journals are.
  *
  * No call keeps state, allocates, or looks at anything but what it is lent. Every input, however wrong, gets a definite answer;
  * a call that refuses answers one of the numbers below. What C must keep, since no call can test it:
- *   - each pointer is valid for as many elements as its length says, and is not null, not even with length 0;
+ *   - each pointer is valid for as many elements as its length says, those that counts and lengths are stored to for one word;
  *   - each length is the true one;
  *   - what one call is lent does not overlap, and no other thread writes to it during the call.
+ *
+ * Fields are as wide as in the frame: a node, an outcome, a verdict and the n of a start's frame are one byte, all else is 32 bits.
+ * C cuts a wider number to that before the library sees it: an int of 256 for a node arrives as node 0 and is not refused.
+ * Compare wider numbers yourself first; -Wconversion shows where C would cut one.
+ *
+ * A null pointer is allowed where its length is 0, and gets what any list of length 0 gets:
+ *   check 11; kind and field 0; the frame writers 17 (after 15 for n and 2 for the outcome) and the length 0;
+ *   fresh, write, session, purge and count_node 1, and counts of 0; summary, acknowledgement, held and record 0;
+ *   count 0, and counts of 0; replay the text `BAD 1 15` for no journal, and the answer 0 for no table or no out.
  */
 #ifndef POLLENCART_H
 #define POLLENCART_H
@@ -16,29 +25,66 @@
 extern "C" {
 #endif
 
+/* The version of this header, generated: version */
+#define POLLENCART_VERSION "0.1.0"
+#define POLLENCART_VERSION_MAJOR 0
+#define POLLENCART_VERSION_MINOR 1
+#define POLLENCART_VERSION_PATCH 0
+/* end of version */
+
+/* The version of the library that is linked, as POLLENCART_VERSION is that of the header. It ends in a zero byte and is never null. */
+const char *pollencart_version(void);
+
+/* Refusal numbers; 0 is none. generated: refusals */
+#define POLLENCART_UNSOUND 1  /* the table is not sound, or a fresh table's count or length, or the records to count, are wrong */
+#define POLLENCART_OUTCOME 2  /* a session's outcome is above 3 */
+#define POLLENCART_NODE 3     /* a node number is n or more */
+#define POLLENCART_TWICE 4    /* a session names one node twice */
+#define POLLENCART_CLOCK 5    /* a write's timestamp is not above, or a session's reading is below, the node's own summary entry */
+#define POLLENCART_FULL 6     /* a write finds 64 records held, or a finishing side would hold more than 64 */
+#define POLLENCART_SHAPE 11   /* the digits are none or odd in number, the kind is unknown, the length is not the kind's, or an outcome is above 3 */
+#define POLLENCART_DIGIT 12   /* a character is not 0 to 9 or A to F */
+#define POLLENCART_SUM 13     /* the bytes do not add up to zero */
+#define POLLENCART_UNENDED 14 /* bytes are left but no LF follows */
+#define POLLENCART_START 15   /* the first line is no start, a later line is one, or a start's n is not 2 to 16 */
+#define POLLENCART_LONG 16    /* the journal exceeds 65,536 bytes */
+#define POLLENCART_ROOM 17    /* the lent bytes are too few for the frame */
+/* end of refusals */
+
+/* What is wrong, as in the list above: for a number that is not there and for 0 it says so. It ends in a zero byte and is never null.
+ * This call and pollencart_version are plain C (c/about.c) beside the proved calls: constants. */
+const char *pollencart_refusal_text(uint32_t number);
+
+/* The kinds of frames. */
+#define POLLENCART_KIND_START 0
+#define POLLENCART_KIND_WRITE 1
+#define POLLENCART_KIND_SESSION 2
+#define POLLENCART_KIND_PURGE 3
+
+/* The outcomes of a session: which sides finish. */
+#define POLLENCART_FINISH_NEITHER 0
+#define POLLENCART_FINISH_A 1
+#define POLLENCART_FINISH_B 2
+#define POLLENCART_FINISH_BOTH 3
+
+/* The classes of verdicts, by the first byte of each; a class goes up to the next one's first, the last up to FF. */
+#define POLLENCART_VERDICT_NOT_READ 0x00
+#define POLLENCART_VERDICT_CACHE 0x10    /* answered from page cache: scrubbed */
+#define POLLENCART_VERDICT_GOOD 0x20     /* read from platter, good: scrubbed and touched */
+#define POLLENCART_VERDICT_BAD 0x30      /* read from platter, bad: scrubbed and touched */
+#define POLLENCART_VERDICT_REPAIRED 0x40 /* repaired and read back: scrubbed and touched */
+#define POLLENCART_VERDICT_RESERVED 0x50
+
 /* The bytes of the longest frame, its LF included. */
 #define POLLENCART_FRAME 27
 
 /* The words of a table. */
 #define POLLENCART_TABLE 4625
 
-/* Refusal numbers; 0 is none. */
-#define POLLENCART_UNSOUND 1 /* the table is not sound; a fresh table's count or length, or a count's records, are wrong */
-#define POLLENCART_OUTCOME 2 /* a session's outcome is above 3 */
-#define POLLENCART_NODE 3    /* a node number is n or more */
-#define POLLENCART_TWICE 4   /* a session names one node twice */
-#define POLLENCART_CLOCK 5   /* a timestamp is not above, or a reading is below, the node's own summary entry */
-#define POLLENCART_FULL 6    /* a log would hold more than 64 records */
-#define POLLENCART_SHAPE 11  /* digits none or odd in number, unknown kind, a length that is not the kind's, or an outcome above 3 */
-#define POLLENCART_DIGIT 12  /* a character is not 0 to 9 or A to F */
-#define POLLENCART_SUM 13    /* the bytes do not add up to zero */
-#define POLLENCART_START 15  /* a start's n is not 2 to 16 */
-#define POLLENCART_ROOM 17   /* the lent bytes are too few for the frame */
-
 /* Frames: one line of uppercase hexadecimal. The three readers take a line without its LF; they write nothing.
  *
  * check: 0 if the line is a frame, else 12, 11, 13 or 15, the first that applies.
- * kind:  0 start, 1 write, 2 session, 3 purge. 0 for a line that check refuses: ask check first.
+ * kind:  0 start, 1 write, 2 session, 3 purge (POLLENCART_KIND_..). 0 for a line that check refuses: ask check first.
  * field: the field at this place among the kind's fields, from 0.
  *          start: n              write: node, timestamp, block, verdict
  *          purge: node           session: a, b, ca, cb, outcome
@@ -79,8 +125,8 @@ uint32_t pollencart_fresh(uint32_t *table, size_t table_len, uint32_t n);
  *
  * write:   the node's finding goes after the last record of its log, and its own summary entry becomes the timestamp.
  *          Refused with 1, 3, 5 (the timestamp is not above the own entry) or 6 (64 are held).
- * session: a and b exchange at readings ca and cb. outcome: 0 neither side finishes, 1 only a, 2 only b, 3 both. What was
- *          carried to each is stored through to_a and to_b, 0 for a side that does not finish.
+ * session: a and b exchange at readings ca and cb. outcome: 0 neither side finishes, 1 only a, 2 only b, 3 both
+ *          (POLLENCART_FINISH_..). What was carried to each is stored through to_a and to_b, 0 for a side that does not finish.
  *          Refused with 1, 2, 3, 4, 5 (a reading is below its node's own entry) or 6 (a finishing side would hold more than 64).
  * purge:   the node's records up to the smallest of its acknowledgements leave; how many is stored through removed.
  *          Refused with 1 or 3. */

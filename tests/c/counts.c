@@ -1,21 +1,12 @@
 /* The verdict counts of pollencart.h on lists of records and on a node's log, each between guard words that no call may touch. */
-#include <stdio.h>
-#include <string.h>
+#include "check.h"
 
-#include "pollencart.h"
+static uint32_t all[GUARD + WORDS + GUARD], copy[GUARD + WORDS + GUARD], *const lent = all + GUARD;
 
-#define GUARD 32
-#define UNSET 0xDEADBEEFu
-
-static unsigned long checks, failures;
-static uint32_t all[GUARD + POLLENCART_TABLE + GUARD], copy[GUARD + POLLENCART_TABLE + GUARD], *const lent = all + GUARD;
-
-static void expect(int right, const char *what, unsigned long about) {
-    checks++;
-    if (!right) {
-        failures++;
-        if (failures <= 20) printf("FAILED: %s: %lu\n", what, about);
-    }
+static void right_at(int right, const char *what, unsigned long at) {
+    char about[24];
+    sprintf(about, "%lu", at);
+    expect(right, what, about);
 }
 
 /* Arbitrary words everywhere. */
@@ -26,17 +17,17 @@ static void fill(void) {
 static void counts(size_t len, uint32_t number, uint32_t scrubbed, uint32_t touched, unsigned long about) {
     uint32_t s = UNSET, t = UNSET;
     memcpy(copy, all, sizeof all);
-    expect(pollencart_count(lent, len, &s, &t) == number, "count", about);
-    expect(s == scrubbed && t == touched, "the counts", about);
-    expect(memcmp(copy, all, sizeof all) == 0, "the words", about);
+    right_at(pollencart_count(lent, len, &s, &t) == number, "count", about);
+    right_at(s == scrubbed && t == touched, "the counts", about);
+    right_at(memcmp(copy, all, sizeof all) == 0, "the words", about);
 }
 
 static void node_counts(size_t len, uint8_t node, uint32_t number, uint32_t scrubbed, uint32_t touched, unsigned long about) {
     uint32_t s = UNSET, t = UNSET;
     memcpy(copy, all, sizeof all);
-    expect(pollencart_count_node(lent, len, node, &s, &t) == number, "count_node", about);
-    expect(s == scrubbed && t == touched, "the node's counts", about);
-    expect(memcmp(copy, all, sizeof all) == 0, "the table's words", about);
+    right_at(pollencart_count_node(lent, len, node, &s, &t) == number, "count_node", about);
+    right_at(s == scrubbed && t == touched, "the node's counts", about);
+    right_at(memcmp(copy, all, sizeof all) == 0, "the table's words", about);
 }
 
 int main(void) {
@@ -50,7 +41,7 @@ int main(void) {
     fill();
     for (uint32_t i = 0; i < 80; i++) lent[4 * i + 3] = i % 16 * 16;
     for (size_t len = 0; len < 300; len++) {
-        uint32_t s = 0, t = 0, bad = len % 4 != 0 || len > 256;
+        uint32_t s = 0, t = 0, bad = len % RECORD != 0 || len > RECORD * ROOM;
         for (size_t i = 0; !bad && i < len / 4; i++) s += i % 16 >= 1 && i % 16 <= 4, t += i % 16 >= 2 && i % 16 <= 4;
         counts(len, bad, s, t, (unsigned long)len);
     }
@@ -62,21 +53,20 @@ int main(void) {
     }
     counts(256, 0, 16, 12, 64);
     /* a log of a table */
-    expect(pollencart_fresh(lent, POLLENCART_TABLE, 3) == 0, "fresh", 3);
+    right_at(pollencart_fresh(lent, WORDS, 3) == 0, "fresh", 3);
     for (uint32_t i = 0; i < 64; i++) {
-        expect(pollencart_write(lent, POLLENCART_TABLE, 1, i + 1, i, (uint8_t)(i % 16 * 16)) == 0, "write", i);
+        right_at(pollencart_write(lent, WORDS, 1, i + 1, i, (uint8_t)(i % 16 * 16)) == 0, "write", i);
         uint32_t s = (i + 1) / 16 * 4, t = (i + 1) / 16 * 3, rest = (i + 1) % 16;
-        node_counts(POLLENCART_TABLE, 1, 0, s + (rest > 5 ? 4 : rest > 1 ? rest - 1 : 0), t + (rest > 5 ? 3 : rest > 2 ? rest - 2 : 0), i);
+        node_counts(WORDS, 1, 0, s + (rest > 5 ? 4 : rest > 1 ? rest - 1 : 0), t + (rest > 5 ? 3 : rest > 2 ? rest - 2 : 0), i);
     }
-    node_counts(POLLENCART_TABLE, 0, 0, 0, 0, 0);
-    for (uint32_t node = 3; node < 256; node++) node_counts(POLLENCART_TABLE, (uint8_t)node, POLLENCART_NODE, 0, 0, node);
-    for (size_t len = POLLENCART_TABLE - 2; len < POLLENCART_TABLE + 3; len++) {
-        if (len == POLLENCART_TABLE) continue;
+    node_counts(WORDS, 0, 0, 0, 0, 0);
+    for (uint32_t node = 3; node < 256; node++) node_counts(WORDS, (uint8_t)node, POLLENCART_NODE, 0, 0, node);
+    for (size_t len = WORDS - 2; len < WORDS + 3; len++) {
+        if (len == WORDS) continue;
         node_counts(len, 1, POLLENCART_UNSOUND, 0, 0, (unsigned long)len);
         node_counts(len, 3, POLLENCART_UNSOUND, 0, 0, (unsigned long)len);
     }
     lent[0] = 17;
-    node_counts(POLLENCART_TABLE, 1, POLLENCART_UNSOUND, 0, 0, 17);
-    printf("counts from C: %lu checks, %lu failed\n", checks, failures);
-    return failures != 0;
+    node_counts(WORDS, 1, POLLENCART_UNSOUND, 0, 0, 17);
+    return told("counts");
 }

@@ -1,23 +1,9 @@
 /* The frame functions of pollencart.h on good, damaged and empty buffers, each between guard bytes that no call may touch. */
 #include <inttypes.h>
-#include <stdio.h>
-#include <string.h>
 
-#include "pollencart.h"
+#include "check.h"
 
-#define GUARD 32
 #define MOST 64
-#define UNSET 0xDEADBEEFu
-
-static unsigned long checks, failures;
-
-static void expect(int right, const char *what, const char *about) {
-    checks++;
-    if (!right) {
-        failures++;
-        if (failures <= 20) printf("FAILED: %s: %s\n", what, about);
-    }
-}
 
 /* Lent bytes between two guards, and a copy of all of it. */
 struct lent {
@@ -170,12 +156,11 @@ int main(void) {
     damaged("020001000000060000000403F0");
     damaged("0300FD");
     for (uint32_t n = 0; n < 256; n++) {
-        writes(&(struct frame){0, {n}}, n < 2 || n > 16 ? POLLENCART_START : 0);
+        writes(&(struct frame){0, {n}}, n < 2 || n > NODES ? POLLENCART_START : 0);
         writes(&(struct frame){1, {255 - n, n * 0x01020304u, 0xFFFFFFFFu - n * 0x00010001u, n}}, 0);
         writes(&(struct frame){2, {n, 255 - n, 0x80000000u + n, n * 0x01000001u, n}}, n > 3 ? POLLENCART_OUTCOME : 0);
         writes(&(struct frame){2, {n, n, n * 0x10010000u, 0xFFFFFFFFu - n, n % 4}}, 0);
         writes(&(struct frame){3, {n}}, 0);
     }
-    printf("frames from C: %lu checks, %lu failed\n", checks, failures);
-    return failures != 0;
+    return told("frames");
 }

@@ -1,27 +1,11 @@
 /* pollencart_replay on whole, empty, refused and too long journals and on lent words and bytes of the wrong length, each between
  * guards that no call may touch. */
-#include <stdio.h>
-#include <string.h>
-
-#include "pollencart.h"
-
-#define GUARD 32
-#define TABLE POLLENCART_TABLE
-
-static unsigned long checks, failures;
-
-static void expect(int right, const char *what, const char *about) {
-    checks++;
-    if (!right) {
-        failures++;
-        printf("FAILED: %s: %s\n", what, about);
-    }
-}
+#include "check.h"
 
 /* The lent words and bytes between guards, and a copy of each. */
-static uint32_t words[GUARD + TABLE + 1 + GUARD], words_copy[GUARD + TABLE + 1 + GUARD];
-static uint8_t bytes[GUARD + POLLENCART_TEXT + 1000 + GUARD], bytes_copy[GUARD + POLLENCART_TEXT + 1000 + GUARD];
-static uint8_t journal[POLLENCART_JOURNAL + 1], journal_copy[POLLENCART_JOURNAL + 1];
+static uint32_t words[GUARD + WORDS + 1 + GUARD], words_copy[GUARD + WORDS + 1 + GUARD], *const table = words + GUARD;
+static uint8_t bytes[GUARD + TEXT + 1000 + GUARD], bytes_copy[GUARD + TEXT + 1000 + GUARD];
+static uint8_t journal[JOURNAL + 1], journal_copy[JOURNAL + 1];
 
 static void lend(void) {
     for (size_t i = 0; i < sizeof words / sizeof words[0]; i++) words[i] = 0xA5A50000u ^ (uint32_t)(i * 7);
@@ -35,7 +19,7 @@ static void lend(void) {
 static void replays(const char *about, size_t journal_len, size_t table_len, size_t out_len, const char *text, int kept) {
     size_t n = strlen(text), after = GUARD + n, end = GUARD + table_len;
     lend();
-    expect(pollencart_replay(journal, journal_len, words + GUARD, table_len, bytes + GUARD, out_len) == n, about, "length");
+    expect(pollencart_replay(journal, journal_len, table, table_len, bytes + GUARD, out_len) == n, about, "length");
     expect(memcmp(bytes + GUARD, text, n) == 0, about, "text");
     expect(memcmp(bytes, bytes_copy, GUARD) == 0, about, "bytes before the text");
     expect(memcmp(bytes + after, bytes_copy + after, sizeof bytes - after) == 0, about, "bytes after the text");
@@ -59,30 +43,29 @@ static size_t say(const char *lines) {
 int main(void) {
     const char *whole = "N 2 STEPS 6 REFUSED 0\n0 S 8 8 K 7 6 L 0\n1 S 8 8 K 7 6 L 1\n";
     size_t n = say(START WRITE REST);
-    replays("the example", n, TABLE, POLLENCART_TEXT, whole, 0);
-    replays("the example, more room", n, TABLE, POLLENCART_TEXT + 1000, whole, 0);
-    expect(words[GUARD] == 2, "the example", "count in the table");
-    expect(words[GUARD + 1] == 8 && words[GUARD + 2] == 8 && words[GUARD + 3] == 0, "the example", "summary in the table");
-    expect(words[GUARD + 513] == 0 && words[GUARD + 514] == 1, "the example", "held numbers in the table");
-    expect(words[GUARD + 529 + 256 + 1] == 5 && words[GUARD + 529 + 256 + 3] == 16, "the example", "record in the table");
-    replays("out one byte short", n, TABLE, POLLENCART_TEXT - 1, "", 1);
-    replays("out of no byte", n, TABLE, 0, "", 1);
-    replays("a table one word short", n, TABLE - 1, POLLENCART_TEXT, "", 1);
-    replays("a table one word long", n, TABLE + 1, POLLENCART_TEXT, "", 1);
-    replays("a table of no word", n, 0, POLLENCART_TEXT, "", 1);
-    replays("an empty journal", 0, TABLE, POLLENCART_TEXT, "BAD 1 15\n", 1);
-    replays("no LF", 6, TABLE, POLLENCART_TEXT, "BAD 1 14\n", 1);
-    replays("no LF after the last line", n - 1, TABLE, POLLENCART_TEXT, "BAD 7 14\n", 0);
+    replays("the example", n, WORDS, TEXT, whole, 0);
+    replays("the example, more room", n, WORDS, TEXT + 1000, whole, 0);
+    expect(table[COUNT] == 2, "the example", "count in the table");
+    expect(table[summary_at(0, 0)] == 8 && table[summary_at(0, 1)] == 8 && table[summary_at(0, 2)] == 0, "the example", "summary in the table");
+    expect(table[held_at(0)] == 0 && table[held_at(1)] == 1, "the example", "held numbers in the table");
+    expect(table[record_at(1, 0, 1)] == 5 && table[record_at(1, 0, 3)] == 16, "the example", "record in the table");
+    replays("out one byte short", n, WORDS, TEXT - 1, "", 1);
+    replays("out of no byte", n, WORDS, 0, "", 1);
+    replays("a table one word short", n, WORDS - 1, TEXT, "", 1);
+    replays("a table one word long", n, WORDS + 1, TEXT, "", 1);
+    replays("a table of no word", n, 0, TEXT, "", 1);
+    replays("an empty journal", 0, WORDS, TEXT, "BAD 1 15\n", 1);
+    replays("no LF", 6, WORDS, TEXT, "BAD 1 14\n", 1);
+    replays("no LF after the last line", n - 1, WORDS, TEXT, "BAD 7 14\n", 0);
     n = say(WRITE);
-    replays("no start", n, TABLE, POLLENCART_TEXT, "BAD 1 15\n", 1);
+    replays("no start", n, WORDS, TEXT, "BAD 1 15\n", 1);
     n = say(START WRITE "0002FF\n" WRITE);
-    replays("a sum that is not zero", n, TABLE, POLLENCART_TEXT, "BAD 3 13\n", 0);
-    expect(words[GUARD] == 2 && words[GUARD + 1] == 5 && words[GUARD + 513] == 1, "a sum that is not zero", "the steps before it");
+    replays("a sum that is not zero", n, WORDS, TEXT, "BAD 3 13\n", 0);
+    expect(table[COUNT] == 2 && table[summary_at(0, 0)] == 5 && table[held_at(0)] == 1, "a sum that is not zero", "the steps before it");
     n = say(START WRITE WRITE);
-    replays("a write refused", n, TABLE, POLLENCART_TEXT, "N 2 STEPS 2 REFUSED 1\n0 S 5 0 K 0 0 L 1\n1 S 0 0 K 0 0 L 0\n", 0);
+    replays("a write refused", n, WORDS, TEXT, "N 2 STEPS 2 REFUSED 1\n0 S 5 0 K 0 0 L 1\n1 S 0 0 K 0 0 L 0\n", 0);
     memset(journal, '\n', sizeof journal);
-    replays("the longest journal", POLLENCART_JOURNAL, TABLE, POLLENCART_TEXT, "BAD 1 11\n", 1);
-    replays("a journal one byte too long", POLLENCART_JOURNAL + 1, TABLE, POLLENCART_TEXT, "BAD 0 16\n", 1);
-    printf("replay from C: %lu checks, %lu failed\n", checks, failures);
-    return failures != 0;
+    replays("the longest journal", JOURNAL, WORDS, TEXT, "BAD 1 11\n", 1);
+    replays("a journal one byte too long", JOURNAL + 1, WORDS, TEXT, "BAD 0 16\n", 1);
+    return told("replay");
 }

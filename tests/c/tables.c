@@ -1,23 +1,10 @@
-/* The table functions of pollencart.h against a plain account of the same actions written here, on sound and unsound tables of
- * arbitrary words, each between guard words that no call may touch. */
-#include <stdio.h>
-#include <string.h>
+/* The table functions of pollencart.h as a caller meets them: examples of each action with every changed word written out, each
+ * refusal number that a call can give and which of two comes first, tables that are not sound, wrong lengths, and the readers at
+ * every place and beyond. A table stands between guard words that no call may touch, and after each call every word is compared.
+ * No action is worked out here: tests/rust compares what steps do with an independent implementation. */
+#include "check.h"
 
-#include "pollencart.h"
-
-#define GUARD 64
-#define UNSET 0xDEADBEEFu
-#define LENGTH(a) (sizeof(a) / sizeof(a)[0])
-
-static unsigned long checks, failures, met[4][7];
-
-static void expect(int right, const char *what, const char *about) {
-    checks++;
-    if (!right) {
-        failures++;
-        if (failures <= 20) printf("FAILED: %s: %s\n", what, about);
-    }
-}
+typedef char same_words[POLLENCART_TABLE == WORDS && POLLENCART_TEXT == TEXT && POLLENCART_JOURNAL == JOURNAL ? 1 : -1];
 
 static uint32_t any(void) {
     static uint64_t x = 88172645463325252u;
@@ -27,265 +14,261 @@ static uint32_t any(void) {
     return (uint32_t)(x >> 16);
 }
 
-static uint32_t below(uint32_t n) { return any() % n; }
+/* What the lent words must be, and the lent words between two guards. */
+static uint32_t due[WORDS], lent[GUARD + WORDS + GUARD], copy[GUARD + WORDS + GUARD];
+static unsigned long met[4][7];
 
-/* A table, its words in their order. */
-struct table {
-    uint32_t n, summary[16][16], acks[16][16], held[16], log[16][64][4];
+static uint32_t *lend(void) {
+    for (size_t i = 0; i < LENGTH(lent); i++) lent[i] = 0xA5A5A5A5u ^ (uint32_t)(i * 0x01000193u);
+    memcpy(lent + GUARD, due, sizeof due);
+    memcpy(copy, lent, sizeof copy);
+    return lent + GUARD;
+}
+
+static void stands(const char *about) {
+    memcpy(copy + GUARD, due, sizeof due);
+    expect(memcmp(copy, lent, sizeof copy) == 0, about, "the words");
+}
+
+/* A call: its kind, 0 to 3, and its fields. */
+enum { FRESH, WRITE, SESSION, PURGE };
+struct call {
+    int kind;
+    uint32_t f[5];
 };
 
-/* Lent words between two guards, and a copy of all of it. */
-struct lent {
-    uint32_t all[GUARD + POLLENCART_TABLE + GUARD], copy[GUARD + POLLENCART_TABLE + GUARD];
-    size_t len;
-};
+#define FRESH_OF(n) ((struct call){FRESH, {n}})
+#define WRITE_OF(...) ((struct call){WRITE, {__VA_ARGS__}})
+#define SESSION_OF(...) ((struct call){SESSION, {__VA_ARGS__}})
+#define PURGE_OF(n) ((struct call){PURGE, {n}})
 
-static struct lent lent;
-
-static uint32_t *lend(const struct table *t, size_t len) {
-    for (size_t i = 0; i < LENGTH(lent.all); i++) lent.all[i] = 0xA5A5A5A5u ^ (uint32_t)(i * 0x01000193u);
-    memcpy(lent.all + GUARD, t, sizeof *t);
-    memcpy(lent.copy, lent.all, sizeof lent.all);
-    lent.len = len;
-    return lent.all + GUARD;
-}
-
-/* The lent words, all of them and the guards, are those of this table. */
-static int stands(const struct table *t) {
-    memcpy(lent.copy + GUARD, t, sizeof *t);
-    return memcmp(lent.all, lent.copy, sizeof lent.all) == 0;
-}
-
-static int sound(const struct table *t, size_t len) {
-    if (len != POLLENCART_TABLE || t->n < 2 || t->n > 16) return 0;
-    for (uint32_t p = 0; p < t->n; p++) {
-        if (t->held[p] > 64) return 0;
-        for (uint32_t i = 0; i < t->held[p]; i++)
-            if (t->log[p][i][0] >= t->n || t->log[p][i][3] > 255) return 0;
+/* Makes the call on a copy of the table that is due and compares its answer and its counts. */
+static void answers(const char *about, struct call c, size_t len, uint32_t number, uint32_t count, uint32_t count_b) {
+    uint32_t *w = lend(), x = UNSET, y = UNSET, r = UNSET;
+    const uint32_t *f = c.f;
+    switch (c.kind) {
+    case FRESH: r = pollencart_fresh(w, len, f[0]); break;
+    case WRITE: r = pollencart_write(w, len, (uint8_t)f[0], f[1], f[2], (uint8_t)f[3]); break;
+    case SESSION: r = pollencart_session(w, len, (uint8_t)f[0], (uint8_t)f[1], f[2], f[3], (uint8_t)f[4], &x, &y); break;
+    default: r = pollencart_purge(w, len, (uint8_t)f[0], &x); break;
     }
-    return 1;
+    expect(r == number, about, "the number");
+    expect(x == (c.kind < SESSION ? UNSET : count) && y == (c.kind == SESSION ? count_b : UNSET), about, "the counts");
+    met[c.kind][r < 7 ? r : 0]++;
 }
 
-static uint32_t least(const uint32_t *row, uint32_t n) {
-    uint32_t m = row[0];
-    for (uint32_t i = 1; i < n; i++)
-        if (row[i] < m) m = row[i];
-    return m;
+/* Refused: the number, zero counts, and no word changed. */
+static void refused(const char *about, struct call c, size_t len, uint32_t number) {
+    answers(about, c, len, number, 0, 0);
+    stands(about);
 }
 
-/* The actions by the account: the number, and the table changed if that is 0. */
-static uint32_t account_write(struct table *t, size_t len, uint32_t p, uint32_t at, uint32_t block, uint32_t verdict) {
-    if (!sound(t, len)) return 1;
-    if (p >= t->n) return 3;
-    if (at <= t->summary[p][p]) return 5;
-    if (t->held[p] >= 64) return 6;
-    uint32_t *row = t->log[p][t->held[p]++];
-    row[0] = p, row[1] = at, row[2] = block, row[3] = verdict;
-    t->summary[p][p] = at;
-    return 0;
-}
-
-static uint32_t merge(struct table *t, const struct table *from, uint32_t mine, uint32_t theirs) {
-    uint32_t carried = 0;
-    for (uint32_t i = 0; i < from->held[theirs]; i++) {
-        const uint32_t *row = from->log[theirs][i];
-        if (row[1] <= from->summary[mine][row[0]]) continue;
-        if (t->held[mine] < 64) memcpy(t->log[mine][t->held[mine]], row, 4 * sizeof *row);
-        t->held[mine]++, carried++;
+/* A table of three among words of any kind: node 0 holds two records, node 1 one, node 2 sixty-four. */
+static void fill(void) {
+    static const uint32_t summary[3][3] = {{5, 3, 9}, {2, 7, 9}, {1, 1, 100}}, acks[3][3] = {{1, 2, 3}, {4, 1, 2}, {50, 60, 70}};
+    static const uint32_t held[3] = {2, 1, 64}, records[3][4] = {{0, 4, 40, 16}, {0, 5, 50, 32}, {1, 7, 70, 255}};
+    for (size_t i = 0; i < WORDS; i++) due[i] = any();
+    due[COUNT] = 3;
+    for (uint32_t p = 0; p < 3; p++) {
+        due[held_at(p)] = held[p];
+        for (uint32_t o = 0; o < 3; o++) due[summary_at(p, o)] = summary[p][o], due[acknowledgement_at(p, o)] = acks[p][o];
     }
-    for (uint32_t o = 0; o < t->n; o++) {
-        if (t->summary[mine][o] < from->summary[theirs][o]) t->summary[mine][o] = from->summary[theirs][o];
-        if (t->acks[mine][o] < from->acks[theirs][o]) t->acks[mine][o] = from->acks[theirs][o];
+    for (uint32_t word = 0; word < RECORD; word++) {
+        due[record_at(0, 0, word)] = records[0][word];
+        due[record_at(0, 1, word)] = records[1][word];
+        due[record_at(1, 0, word)] = records[2][word];
     }
-    return carried;
+    for (uint32_t i = 0; i < ROOM; i++) {
+        due[record_at(2, i, 0)] = 2, due[record_at(2, i, 1)] = 37 + i, due[record_at(2, i, 3)] = i;
+    }
 }
 
-static uint32_t account_session(struct table *t, size_t len, uint32_t a, uint32_t b, uint32_t ca, uint32_t cb, uint32_t outcome,
-                                uint32_t *to_a, uint32_t *to_b) {
-    *to_a = *to_b = 0;
-    if (!sound(t, len)) return 1;
-    if (outcome > 3) return 2;
-    if (a >= t->n || b >= t->n) return 3;
-    if (a == b) return 4;
-    if (ca < t->summary[a][a] || cb < t->summary[b][b]) return 5;
-    struct table start = *t;
-    start.summary[a][a] = ca, start.summary[b][b] = cb;
-    start.acks[a][a] = least(start.summary[a], t->n), start.acks[b][b] = least(start.summary[b], t->n);
-    struct table end = start;
-    uint32_t na = outcome & 1 ? merge(&end, &start, a, b) : 0, nb = outcome & 2 ? merge(&end, &start, b, a) : 0;
-    if (end.held[a] > 64 || end.held[b] > 64) return 6;
-    *t = end, *to_a = na, *to_b = nb;
-    return 0;
+static void set_row(size_t at, uint32_t x, uint32_t y, uint32_t z) { due[at] = x, due[at + 1] = y, due[at + 2] = z; }
+
+static void set_record(uint32_t p, uint32_t row, uint32_t origin, uint32_t timestamp, uint32_t block, uint32_t verdict) {
+    due[record_at(p, row, 0)] = origin, due[record_at(p, row, 1)] = timestamp;
+    due[record_at(p, row, 2)] = block, due[record_at(p, row, 3)] = verdict;
+    due[held_at(p)] = row + 1;
 }
 
-static uint32_t account_purge(struct table *t, size_t len, uint32_t p, uint32_t *removed) {
-    *removed = 0;
-    if (!sound(t, len)) return 1;
-    if (p >= t->n) return 3;
-    uint32_t limit = least(t->acks[p], t->n), kept = 0, held = t->held[p];
-    for (uint32_t i = 0; i < held; i++)
-        if (t->log[p][i][1] > limit) memmove(t->log[p][kept++], t->log[p][i], sizeof t->log[p][i]);
-    for (uint32_t i = kept; i < held; i++) memset(t->log[p][i], 0, sizeof t->log[p][i]);
-    t->held[p] = kept, *removed = held - kept;
-    return 0;
+/* A write on the table of three; then sessions of 0 and 1 at 6 and 8, of each outcome: whatever comes of them, both have their
+ * starting values, and a side that finishes has the other's records and the greater of both. */
+static void writes_and_meets(void) {
+    for (uint32_t outcome = 0; outcome < 4; outcome++) {
+        fill();
+        answers("a write", WRITE_OF(1, 8, 11, 12), WORDS, 0, 0, 0);
+        set_record(1, 1, 1, 8, 11, 12);
+        due[summary_at(1, 1)] = 8;
+        stands("a write");
+        answers("a session", SESSION_OF(0, 1, 6, 8, outcome), WORDS, 0, outcome & 1 ? 2 : 0, outcome & 2 ? 2 : 0);
+        set_row(summary_at(0, 0), 6, 3, 9), set_row(acknowledgement_at(0, 0), 3, 2, 3);
+        set_row(summary_at(1, 0), 2, 8, 9), set_row(acknowledgement_at(1, 0), 4, 2, 2);
+        if (outcome & 1) {
+            set_record(0, 2, 1, 7, 70, 255), set_record(0, 3, 1, 8, 11, 12);
+            set_row(summary_at(0, 0), 6, 8, 9), set_row(acknowledgement_at(0, 0), 4, 2, 3);
+        }
+        if (outcome & 2) {
+            set_record(1, 2, 0, 4, 40, 16), set_record(1, 3, 0, 5, 50, 32);
+            set_row(summary_at(1, 0), 6, 8, 9), set_row(acknowledgement_at(1, 0), 4, 2, 3);
+        }
+        stands("a session");
+    }
 }
 
-/* Each call beside the account of it; the table goes on as the account leaves it. */
-static uint32_t fresh(struct table *t, size_t len, uint32_t n) {
-    uint32_t *w = lend(t, len), due = len == POLLENCART_TABLE && n >= 2 && n <= 16 ? 0 : 1;
-    uint32_t r = pollencart_fresh(w, len, n);
-    if (!due) memset(t, 0, sizeof *t), t->n = n;
-    expect(r == due, "fresh", "the number");
-    expect(stands(t), "fresh", "the words");
-    met[0][due]++;
-    return r;
+/* Node 2's smallest acknowledgement is 50: 37 to 50 leave, 51 to 100 close up, fourteen rows become zero. Node 0's is 1: none leave. */
+static void purges(void) {
+    fill();
+    answers("a purge of none", PURGE_OF(0), WORDS, 0, 0, 0);
+    stands("a purge of none");
+    answers("a purge", PURGE_OF(2), WORDS, 0, 14, 0);
+    for (uint32_t i = 0; i < ROOM; i++)
+        for (uint32_t word = 0; word < RECORD; word++) due[record_at(2, i, word)] = i < 50 ? due[record_at(2, i + 14, word)] : 0;
+    due[held_at(2)] = 50;
+    stands("a purge");
 }
 
-static uint32_t write(struct table *t, size_t len, uint8_t p, uint32_t at, uint32_t block, uint8_t verdict) {
-    uint32_t *w = lend(t, len), due = account_write(t, len, p, at, block, verdict);
-    uint32_t r = pollencart_write(w, len, p, at, block, verdict);
-    expect(r == due, "write", "the number");
-    expect(stands(t), "write", "the words");
-    met[1][due]++;
-    return r;
+/* Each number on the table of three, and which of two comes first. */
+static void refusals(void) {
+    fill();
+    refused("write: node", WRITE_OF(3, 8, 1, 1), WORDS, 3);
+    refused("write: node, and the clock", WRITE_OF(255, 0, 1, 1), WORDS, 3);
+    refused("write: at the own entry", WRITE_OF(0, 5, 1, 1), WORDS, 5);
+    refused("write: below it", WRITE_OF(0, 0, 1, 1), WORDS, 5);
+    refused("write: a full log", WRITE_OF(2, 101, 1, 1), WORDS, 6);
+    refused("write: a full log and a clock gone back", WRITE_OF(2, 100, 1, 1), WORDS, 5);
+    refused("session: outcome", SESSION_OF(0, 1, 6, 8, 4), WORDS, 2);
+    refused("session: outcome, and nodes", SESSION_OF(3, 3, 0, 0, 255), WORDS, 2);
+    refused("session: node a", SESSION_OF(3, 1, 6, 8, 3), WORDS, 3);
+    refused("session: node b", SESSION_OF(0, 3, 6, 8, 3), WORDS, 3);
+    refused("session: node, twice", SESSION_OF(3, 3, 6, 8, 3), WORDS, 3);
+    refused("session: one node twice", SESSION_OF(1, 1, 9, 9, 3), WORDS, 4);
+    refused("session: one node twice, and its clock", SESSION_OF(1, 1, 0, 0, 0), WORDS, 4);
+    refused("session: a's clock", SESSION_OF(0, 1, 4, 8, 0), WORDS, 5);
+    refused("session: b's clock", SESSION_OF(0, 1, 6, 6, 3), WORDS, 5);
+    refused("session: b's clock, and no room at a", SESSION_OF(2, 0, 100, 4, 1), WORDS, 5);
+    refused("session: no room at a", SESSION_OF(2, 0, 100, 5, 1), WORDS, 6);
+    refused("session: no room at a, both", SESSION_OF(2, 0, 100, 5, 3), WORDS, 6);
+    refused("session: no room at b", SESSION_OF(2, 0, 100, 5, 2), WORDS, 6);
+    refused("purge: node", PURGE_OF(3), WORDS, 3);
+    refused("purge: node 255", PURGE_OF(255), WORDS, 3);
+    answers("session: room asked of none", SESSION_OF(2, 0, 100, 5, 0), WORDS, 0, 0, 0);
 }
 
-static uint32_t session(struct table *t, size_t len, uint8_t a, uint8_t b, uint32_t ca, uint32_t cb, uint8_t outcome) {
-    uint32_t na, nb, to_a = UNSET, to_b = UNSET, *w = lend(t, len);
-    uint32_t due = account_session(t, len, a, b, ca, cb, outcome, &na, &nb);
-    uint32_t r = pollencart_session(w, len, a, b, ca, cb, outcome, &to_a, &to_b);
-    expect(r == due, "session", "the number");
-    expect(to_a == na && to_b == nb, "session", "the counts");
-    expect(stands(t), "session", "the words");
-    met[2][due]++;
-    return r;
+/* A fresh table, from 2 nodes to 16; every other count and every wrong length is refused. */
+static void freshes(void) {
+    static const uint32_t counts[] = {17, 18, 256, 258, 0x10002u, 0x80000002u, UINT32_MAX};
+    for (uint32_t n = 2; n <= NODES; n++) {
+        fill();
+        answers("fresh", FRESH_OF(n), WORDS, 0, 0, 0);
+        memset(due, 0, sizeof due);
+        due[COUNT] = n;
+        stands("fresh");
+    }
+    fill();
+    for (uint32_t n = 0; n < 2; n++) refused("fresh: few", FRESH_OF(n), WORDS, 1);
+    for (size_t i = 0; i < LENGTH(counts); i++) refused("fresh: many", FRESH_OF(counts[i]), WORDS, 1);
 }
 
-static uint32_t purge(struct table *t, size_t len, uint8_t p) {
-    uint32_t n, removed = UNSET, *w = lend(t, len), due = account_purge(t, len, p, &n);
-    uint32_t r = pollencart_purge(w, len, p, &removed);
-    expect(r == due, "purge", "the number");
-    expect(removed == n, "purge", "the count");
-    expect(stands(t), "purge", "the words");
-    met[3][due]++;
-    return r;
-}
-
-/* Every reader at every place, and beyond. */
-static void look(const struct table *t, size_t len) {
+/* Every reader at every place of the table that is due, and beyond; `n` is 0 for one that is not sound. */
+static void look(size_t len, uint32_t n) {
     static const uint32_t beyond[] = {17, 128, 254, 255, 256, 0x40000000u, 0x80000000u, UINT32_MAX - 3, UINT32_MAX};
-    const uint32_t *w = lend(t, len);
-    int good = sound(t, len);
+    const uint32_t *w = lend();
     for (uint32_t i = 0; i < 21; i++) {
         uint32_t p = i < 17 ? i : beyond[i - 17];
-        int node = good && p < t->n;
-        expect(pollencart_held(w, len, (uint8_t)p) == (node ? t->held[p] : 0), "held", "the number");
+        uint32_t held = p < n ? due[held_at(p)] : 0, s = UNSET, t = UNSET;
+        expect(pollencart_held(w, len, (uint8_t)p) == held, "held", "the number");
+        uint32_t number = pollencart_count_node(w, len, (uint8_t)p, &s, &t);
+        expect(number == (p < n ? 0 : n ? 3 : 1) && t <= s && s <= held, "count_node", "the number");
         for (uint32_t j = 0; j < 21; j++) {
             uint32_t o = j < 17 ? j : beyond[j - 17];
-            int entry = node && o < t->n;
-            expect(pollencart_summary(w, len, (uint8_t)p, (uint8_t)o) == (entry ? t->summary[p][o] : 0), "summary", "the entry");
-            expect(pollencart_acknowledgement(w, len, (uint8_t)p, (uint8_t)o) == (entry ? t->acks[p][o] : 0), "acknowledgement", "the entry");
+            int entry = p < n && o < n;
+            expect(pollencart_summary(w, len, (uint8_t)p, (uint8_t)o) == (entry ? due[summary_at(p, o)] : 0), "summary", "the entry");
+            expect(pollencart_acknowledgement(w, len, (uint8_t)p, (uint8_t)o) == (entry ? due[acknowledgement_at(p, o)] : 0), "acknowledgement", "the entry");
         }
         for (uint32_t j = 0; j < 67 + LENGTH(beyond); j++)
             for (uint32_t k = 0; k < 6 + LENGTH(beyond); k++) {
                 uint32_t at = j < 67 ? j : beyond[j - 67], word = k < 6 ? k : beyond[k - 6];
-                int row = node && at < t->held[p] && word < 4;
                 if (k > 5 && j > 2 && j < 62) continue;
-                expect(pollencart_record(w, len, (uint8_t)p, at, word) == (row ? t->log[p][at][word] : 0), "record", "the word");
+                expect(pollencart_record(w, len, (uint8_t)p, at, word) == (at < held && word < RECORD ? due[record_at(p, at, word)] : 0), "record", "the word");
             }
     }
-    expect(stands(t), "the readers", "the words");
+    stands("the readers");
 }
 
-/* A sound table of arbitrary words: rows at or beyond n, and rows that are not held, hold anything. */
-static void fill(struct table *t, uint32_t most) {
-    uint32_t *w = (uint32_t *)t, small = below(2);
-    for (size_t i = 0; i < POLLENCART_TABLE; i++) w[i] = small ? below(100) : any();
-    t->n = 2 + below(15);
-    for (uint32_t p = 0; p < t->n; p++) {
-        t->held[p] = below(most + 1);
-        for (uint32_t i = 0; i < t->held[p]; i++) t->log[p][i][0] %= t->n, t->log[p][i][3] %= 256;
-    }
+/* Each action, whatever else is wrong with it, is refused with 1. */
+static void unsound(const char *about, size_t len) {
+    refused(about, WRITE_OF(0, UINT32_MAX, 1, 2), len, 1);
+    refused(about, WRITE_OF(255, 0, 1, 2), len, 1);
+    refused(about, SESSION_OF(0, 1, UINT32_MAX, UINT32_MAX, 3), len, 1);
+    refused(about, SESSION_OF(0, 0, 0, 0, 4), len, 1);
+    refused(about, PURGE_OF(1), len, 1);
+    refused(about, PURGE_OF(255), len, 1);
 }
 
-/* A reading near the node's own entry. */
-static uint32_t near(const struct table *t, uint32_t p) {
-    uint32_t own = p < 16 ? t->summary[p][p] : 7, by = below(40);
-    return by == 0 ? own - 1 : by == 1 ? 0 : by == 2 ? UINT32_MAX : own + by / 8;
+/* One word of a sound table is another value. */
+static void spoiled(const char *about, size_t at, uint32_t value) {
+    uint32_t right = due[at];
+    due[at] = value;
+    unsound(about, WORDS);
+    due[at] = right;
 }
 
-static uint32_t some(const struct table *t) { return below(30) ? below(t->n < 17 && t->n ? t->n : 3) : below(2) ? t->n : 255; }
-
-static void step(struct table *t, size_t len) {
-    uint32_t p = some(t), q = some(t), kind = below(8);
-    if (kind == 0) purge(t, len, (uint8_t)p);
-    else if (kind < 4) write(t, len, (uint8_t)p, near(t, p & 255), any(), (uint8_t)any());
-    else session(t, len, (uint8_t)p, (uint8_t)q, near(t, p & 255), near(t, q & 255), (uint8_t)(below(20) ? below(4) : 4 + below(252)));
-}
-
-static void every(struct table *t, size_t len) {
-    struct table keep = *t;
-    write(t, len, 0, UINT32_MAX, 1, 2), *t = keep;
-    session(t, len, 0, 1, UINT32_MAX, UINT32_MAX, 3), *t = keep;
-    session(t, len, 0, 0, 0, 0, 4), *t = keep;
-    purge(t, len, 1), *t = keep;
-}
-
-/* One thing wrong at a time, and right things that look wrong. */
-static void spoil(struct table *t) {
+/* Tables that are not sound, one thing wrong at a time; and what lies beyond the nodes or beyond the held rows is nothing to them. */
+static void soundness(void) {
     static const uint32_t counts[] = {0, 1, 17, 256, 0x80000000u, UINT32_MAX}, helds[] = {65, 256, 0x40000000u, UINT32_MAX};
-    static const size_t lengths[] = {0, 1, POLLENCART_TABLE - 1, POLLENCART_TABLE + 1, POLLENCART_TABLE + GUARD};
-    struct table bad;
-    for (size_t i = 0; i < LENGTH(counts); i++) bad = *t, bad.n = counts[i], every(&bad, POLLENCART_TABLE), fresh(&bad, POLLENCART_TABLE, counts[i]);
-    for (size_t i = 0; i < LENGTH(lengths); i++) bad = *t, every(&bad, lengths[i]), fresh(&bad, lengths[i], 2);
-    for (uint32_t p = 0; p < 16; p++) {
-        for (size_t i = 0; i < LENGTH(helds); i++) bad = *t, bad.held[p] = helds[i], every(&bad, POLLENCART_TABLE);
-        for (uint32_t i = 0; i < 64; i += 1 + below(30)) {
-            bad = *t, bad.log[p][i][0] = t->n, every(&bad, POLLENCART_TABLE);
-            bad = *t, bad.log[p][i][3] = 256, every(&bad, POLLENCART_TABLE);
+    static const size_t lengths[] = {0, 1, WORDS - 1, WORDS + 1, WORDS + GUARD};
+    fill();
+    look(WORDS, 3);
+    for (size_t i = 0; i < LENGTH(counts); i++) spoiled("the count", COUNT, counts[i]);
+    for (uint32_t p = 0; p < 3; p++) {
+        for (size_t i = 0; i < LENGTH(helds); i++) spoiled("a held number", held_at(p), helds[i]);
+        for (uint32_t row = 0; row < due[held_at(p)]; row++) {
+            spoiled("an origin", record_at(p, row, 0), 3);
+            spoiled("a verdict", record_at(p, row, 3), 256);
         }
     }
-    bad = *t, bad.held[t->n - 1] = 65, look(&bad, POLLENCART_TABLE);
-    look(t, POLLENCART_TABLE - 1);
+    for (size_t i = 0; i < LENGTH(lengths); i++) {
+        unsound("the length", lengths[i]);
+        refused("fresh: the length", FRESH_OF(2), lengths[i], 1);
+        look(lengths[i], 0);
+    }
+    due[held_at(3)] = 65, due[record_at(3, 0, 0)] = 99, due[record_at(0, 2, 0)] = 99, due[record_at(1, 1, 3)] = 256;
+    look(WORDS, 3);
+    due[held_at(2)] = 65;
+    look(WORDS, 0);
 }
 
 /* The example of the frames and journals: its seven lines, and what they leave. */
 static void example(void) {
     static const uint32_t entries[] = {8, 8, 7, 6};
-    struct table t;
-    memset(&t, 0x55, sizeof t);
-    size_t len = POLLENCART_TABLE;
-    expect(fresh(&t, len, 2) == 0 && write(&t, len, 0, 5, 16, 16) == 0 && session(&t, len, 0, 1, 6, 4, 3) == 0, "example", "begins");
-    expect(session(&t, len, 0, 1, 7, 7, 1) == 0 && purge(&t, len, 0) == 0 && session(&t, len, 0, 1, 8, 8, 3) == 0, "example", "goes on");
-    expect(purge(&t, len, 0) == 0, "example", "ends");
-    const uint32_t *w = lend(&t, len);
+    static uint32_t t[WORDS];
+    uint32_t x = UNSET, y = UNSET;
+    memset(t, 0x55, sizeof t);
+    expect(pollencart_fresh(t, WORDS, 2) == 0 && pollencart_write(t, WORDS, 0, 5, 16, 16) == 0, "example", "begins");
+    expect(pollencart_session(t, WORDS, 0, 1, 6, 4, 3, &x, &y) == 0 && x == 0 && y == 1, "example", "the first session");
+    expect(pollencart_session(t, WORDS, 0, 1, 7, 7, 1, &x, &y) == 0 && x == 0 && y == 0, "example", "the second, which b does not finish");
+    expect(pollencart_purge(t, WORDS, 0, &x) == 0 && x == 0, "example", "a purge of none");
+    expect(pollencart_session(t, WORDS, 0, 1, 8, 8, 3, &x, &y) == 0 && x == 0 && y == 0, "example", "the third session");
+    expect(pollencart_purge(t, WORDS, 0, &x) == 0 && x == 1, "example", "a purge of one");
     for (uint8_t p = 0; p < 2; p++) {
         for (uint8_t o = 0; o < 2; o++) {
-            expect(pollencart_summary(w, len, p, o) == entries[o], "example", "summary");
-            expect(pollencart_acknowledgement(w, len, p, o) == entries[2 + o], "example", "acknowledgement");
+            expect(pollencart_summary(t, WORDS, p, o) == entries[o], "example", "summary");
+            expect(pollencart_acknowledgement(t, WORDS, p, o) == entries[2 + o], "example", "acknowledgement");
         }
-        expect(pollencart_held(w, len, p) == p, "example", "held");
+        expect(pollencart_held(t, WORDS, p) == p, "example", "held");
     }
-    expect(pollencart_record(w, len, 1, 0, 1) == 5 && pollencart_record(w, len, 1, 0, 3) == 16, "example", "record");
+    expect(pollencart_record(t, WORDS, 1, 0, 1) == 5 && pollencart_record(t, WORDS, 1, 0, 3) == 16, "example", "record");
 }
 
 int main(void) {
     static const int possible[4][7] = {{1, 1}, {1, 1, 0, 1, 0, 1, 1}, {1, 1, 1, 1, 1, 1, 1}, {1, 1, 0, 1}};
-    static struct table t;
     example();
-    for (uint32_t n = 0; n < 19; n++) {
-        fill(&t, 64);
-        fresh(&t, POLLENCART_TABLE, n);
-        look(&t, POLLENCART_TABLE);
-    }
-    for (int round = 0; round < 400; round++) {
-        fill(&t, round % 3 ? 8 : 64);
-        if (round % 4 == 0) fresh(&t, POLLENCART_TABLE, 2 + below(15));
-        for (int i = 0; i < 60; i++) step(&t, POLLENCART_TABLE);
-        if (round % 40 == 0) look(&t, POLLENCART_TABLE), spoil(&t);
-    }
+    writes_and_meets();
+    purges();
+    refusals();
+    freshes();
+    soundness();
     for (int f = 0; f < 4; f++)
         for (int k = 0; k < 7; k++) expect(!!met[f][k] == possible[f][k], "refusals", "each that a call can give was met, and no other");
-    printf("tables from C: %lu checks, %lu failed\n", checks, failures);
-    return failures != 0;
+    return told("tables");
 }

@@ -1,5 +1,6 @@
 /* What the three fuzz targets share: the library, the plain C version beside it, lent parts between
  * two guard pages, and the end of a run whose two sides differ. */
+#include "layout.h"
 #include "pollencart.h"
 
 #include <stdio.h>

@@ -31,12 +31,11 @@ static size_t fill(void)
     }
     if (length != POLLENCART_TABLE)
         return length;
-    uint32_t n = plain[0] = 2 + number(1) % 15;
+    uint32_t n = plain[COUNT] = 2 + number(1) % (NODES - 1);
     for (uint32_t p = 0; p < n; p++) {
-        uint32_t held = plain[513 + p] = number(1) % 65;
+        uint32_t held = plain[held_at(p)] = number(1) % (ROOM + 1);
         for (uint32_t i = 0; i < held; i++) {
-            uint32_t *row = plain + 529 + 256 * p + 4 * i;
-            row[0] %= n, row[3] &= 255;
+            plain[record_at(p, i, 0)] %= n, plain[record_at(p, i, 3)] &= 255;
         }
     }
     for (uint32_t many = number(1) % 8; many; many--) {

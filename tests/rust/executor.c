@@ -1,12 +1,9 @@
 /* Runs a list of calls of the C interface, given as words, and writes down every answer, every word
  * of the table after each step and every byte of each frame and text. It is the one place where the
  * tests meet the library. Each lent part ends where a page begins that nothing may touch, so that a
- * call that reads or writes beyond it is killed. Built with -DSERVER it is a program that takes the
- * calls from a shared file: for an archive of another kind of machine, under its emulator. */
+ * call that reads or writes beyond it is killed. It is a program of its own, so that it can be of
+ * another kind of machine, under an emulator, and takes the calls from a shared file. */
 #include "pollencart.h"
-
-/* The number stands in src/library.rs and bench/ too. */
-_Static_assert(POLLENCART_TEXT == 12288, "the room for a replay's text");
 
 /* Declared here so that no C library headers are needed for the other machine. */
 void *mmap(void *, size_t, int, int, int, long);
@@ -132,7 +129,7 @@ static uint32_t *look(const uint32_t *c, uint32_t *out)
 }
 
 /* Runs the calls and gives the number of words of answers. */
-size_t execute(const uint32_t *c, uint32_t *answers)
+static size_t execute(const uint32_t *c, uint32_t *answers)
 {
     uint32_t *out = answers, x, y;
     if (!the_table.guard) {
@@ -176,7 +173,6 @@ size_t execute(const uint32_t *c, uint32_t *answers)
     }
 }
 
-#ifdef SERVER
 /* The shared file has the calls in its first half and the answers in its second; a byte of standard
  * input asks, eight bytes of standard output answer. */
 int main(int argc, char **argv)
@@ -194,4 +190,3 @@ int main(int argc, char **argv)
     }
     return 0;
 }
-#endif

@@ -1,9 +1,11 @@
-// The edges of document 01 that are not starred, and some of their neighbours, run over the library: one line a case.
+// The edges of document 01 that are not starred, and some of their neighbours, run over the library: one line a case. Then journals walked
+// with the reader.
 // What it must print stands in the file stdout.
 use meaning::Action;
 use meaning::Step;
 
 mod say;
+mod walk;
 
 // "count 1 or 17: 1"
 fn making(t: &mut [u32]) {
@@ -106,6 +108,27 @@ fn lines() {
     say::frame(b"0011EF");
 }
 
+// Document 01's journal, each line's part, position and frame.
+fn example() {
+    walk::journal(
+        b"document 01's journal",
+        b"0002FE\n0100000000050000001010DA\n020001000000060000000403F0\n020001000000070000000701EE\n0300FD\n020001000000080000000803EA\n0300FD\n",
+    );
+}
+
+// "with a refusal the part is empty", "A refused line .. leaves the position at that line's start", of equal lines each its own part.
+fn journals() {
+    walk::journal(
+        b"equal lines, then a sum that is not zero",
+        b"0002FE\n0300FD\n0300FD\n0300FE\n",
+    );
+    walk::journal(b"no LF follows", b"0002FE\n0300FD");
+    walk::journal(b"the first line is no start", b"0300FD\n0002FE\n");
+    walk::journal(b"a later line is one", b"0010F0\n0002FE\n");
+    walk::journal(b"an empty line", b"0002FE\n\n");
+    walk::journal(b"an empty journal", b"");
+}
+
 // A table one word too short.
 fn too_short() {
     let mut words = [0u32; 4624];
@@ -144,4 +167,6 @@ fn main() {
     room(t);
     ends(t);
     lines();
+    example();
+    journals();
 }

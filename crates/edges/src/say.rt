@@ -1,23 +1,15 @@
 // What a case prints: its name, then what the library answered.
+ghost use Prim.Native.Nat.{_≤_};
+ghost use Rattle.meaning.specs.Table.{nodesMost};
 use meaning::Action;
 use meaning::Line;
 use meaning::Reply;
 use meaning::Step;
 
 // A number after its label.
-fn field(label: &[u8], n: u32) {
+pub(crate) fn field(label: &[u8], n: u32) {
     io::write_all(1, label);
     io::print_decimal(1, n as u64);
-}
-
-// One line: the case, the refusal number (0 for none), the two counts, and node 0's held number.
-fn line(name: &[u8], number: u32, first: u32, second: u32, held: u32) {
-    io::write_all(1, name);
-    field(b": refusal ", number);
-    field(b" counts ", first);
-    field(b" ", second);
-    field(b" held ", held);
-    io::write_all(1, b"\n");
 }
 
 // A word of the table, 0 beyond its end.
@@ -36,6 +28,41 @@ fn digest(t: &[u32]) -> u64 {
     sum
 }
 
+// How many nodes have a held number to print: those below the count, of which a table has 16 at most.
+fn nodes(t: &[u32]) -> usize
+    ensures { λ r. ⌜ r ≤ nodesMost ⌝ }
+{
+    let n = word(t, layout::COUNT_AT) as usize;
+    if n < layout::NODES_MOST {
+        n
+    } else {
+        layout::NODES_MOST
+    }
+}
+
+// Each node's held number.
+fn held(t: &[u32]) {
+    let n = nodes(t);
+    let mut p: usize = 0;
+    while p < n {
+        field(b" ", word(t, layout::held_at(p)));
+        p += 1;
+    }
+}
+
+// One line: the case, the refusal number (0 for none), the two counts, each node's held number, and the number of all the words.
+fn line(t: &[u32], name: &[u8], number: u32, first: u32, second: u32) {
+    io::write_all(1, name);
+    field(b": refusal ", number);
+    field(b" counts ", first);
+    field(b" ", second);
+    io::write_all(1, b" held");
+    held(t);
+    io::write_all(1, b" words ");
+    io::print_decimal(1, digest(t));
+    io::write_all(1, b"\n");
+}
+
 // Says so if a refused step changed a word.
 fn unchanged(before: u64, after: u64) {
     if before != after {
@@ -43,15 +70,14 @@ fn unchanged(before: u64, after: u64) {
     }
 }
 
-// The reply, with node 0's held number.
+// The reply, with the table afterwards.
 fn reply(t: &[u32], name: &[u8], r: Reply, before: u64) {
-    let held = word(t, layout::held_at(0));
     match r {
-        Reply::Written => line(name, 0, 0, 0, held),
-        Reply::Carried { a, b } => line(name, 0, a, b, held),
-        Reply::Purged { removed } => line(name, 0, removed, 0, held),
+        Reply::Written => line(t, name, 0, 0, 0),
+        Reply::Carried { a, b } => line(t, name, 0, a, b),
+        Reply::Purged { removed } => line(t, name, 0, removed, 0),
         Reply::Refused { number } => {
-            line(name, number, 0, 0, held);
+            line(t, name, number, 0, 0);
             unchanged(before, digest(t));
         }
     }
@@ -96,7 +122,7 @@ pub(crate) fn purge(t: &mut [u32], name: &[u8], node: u8) {
 pub(crate) fn fresh(t: &mut [u32], name: &[u8], n: u32) {
     let before = digest(t);
     let number = table::fresh(t, n);
-    line(name, number, 0, 0, word(t, layout::held_at(0)));
+    line(t, name, number, 0, 0);
     if number != 0 {
         unchanged(before, digest(t));
     }
@@ -115,6 +141,6 @@ fn number_of(answer: Line) -> u32 {
 pub(crate) fn frame(name: &[u8]) {
     io::write_all(1, b"line ");
     io::write_all(1, name);
-    field(b": refusal ", number_of(frames::read_line(name, 1)));
+    field(b": refusal ", number_of(reading::read_line(name, 1)));
     io::write_all(1, b"\n");
 }

@@ -1,11 +1,12 @@
 -- The finder's answer by the tests that led to it, and what each answer says of the line.
 use mathlib.Core.Path.{_≡_, refl, sym, ap, _∙_}
-use mathlib.Core.Bool.{Bool, true, false, not, cond}
-use mathlib.Core.List.{List, []}
+use mathlib.Core.Bool.{Bool, true, false, not, _||_, cond}
+use mathlib.Core.List.{List, [], _∷_}
 use Prim.Native.Nat.{ℕ, _+_, _-_, _≤_, _<_}
 use native.Mathlib.Omega.{arith}
 use lib.Dec.{leb, ltb, eqb}
-use lib.ListN.{length, take, drop, length-drop}
+use lib.ListN.{length, getD, take, drop, length-drop}
+use lib.Seq.{getD-drop}
 use borrow.Author.Tests.{leb-true, leb-false, lt-ltb, le-leb, lt-leb, not-true, not-false, eqb-true, eq-eqb}
 use Rattle.meaning.specs.declared.Step.{Step}
 use Rattle.meaning.specs.declared.Line.{Line as Said}
@@ -13,7 +14,7 @@ use Rattle.meaning.specs.declared.Line.the-variants.{Begin, Act, Refused}
 use Rattle.meaning.specs.declared.Next.{Next}
 use Rattle.meaning.specs.declared.Next.the-variants.{Begin as BeginAt, Act as ActAt, Refused as RefusedAt, End}
 use Rattle.meaning.specs.Frames.{readLine}
-use Rattle.meaning.specs.Journals.{untilLF, hasLF, unended, lineAt, placeAfter, inTurn, nextAt}
+use Rattle.meaning.specs.Journals.{unlessLF, untilLF, hasLF, unended, lineAt, placeAfter, inTurn, nextAt}
 use Rattle.meaning.proofs.JournalLaws.{has-none, until-front, until-short, line-ended, line-none, ended, not-ended}
 use Rattle.meaning.proofs.RowLaws.{and-right}
 use Rattle.journal.specs.declared.Found.the-variants.{Line, Unended, Over}
@@ -39,6 +40,12 @@ pub record Ended (s : List ℕ) (at end : ℕ) : Type 0 where
   pub after : end + 1 ≡ placeAfter s at
   pub left : leb (length s) at ≡ false
   pub has : unended s at ≡ false
+
+-- the part from a place to that place is empty
+pub none-taken : (i : ℕ) (s : List ℕ) → take (i - i) (drop i s) ≡ []
+none-taken i s =
+    let none : i - i ≡ 0 = omega arith in
+    rw none
 
 never : {A : Type 0} → _≡_ {A = ℕ} 0 1 → A
 never e = absurd (omega arith)
@@ -79,7 +86,8 @@ pub unended-facts : (s : List ℕ) (at : ℕ) → foundAt s at ≡ Unended → (
 unfolding foundAt
 unended-facts s at e = go (leb (length s) at) (unended s at) refl refl e
   where
-    go : (a b : Bool) → leb (length s) at ≡ a → unended s at ≡ b → cond a Over (cond b Unended (Line (at + length (lineAt s at)))) ≡ Unended → (leb (length s) at ≡ false) × (unended s at ≡ true)
+    go : (a b : Bool) → leb (length s) at ≡ a → unended s at ≡ b → cond a Over (cond b Unended (Line (at + length (lineAt s at)))) ≡ Unended
+        → (leb (length s) at ≡ false) × (unended s at ≡ true)
     go true b p q r = never (cc)
     go false true p q r = (p, q)
     go false false p q r = never (cc)
@@ -88,7 +96,8 @@ pub over-facts : (s : List ℕ) (at : ℕ) → foundAt s at ≡ Over → leb (le
 unfolding foundAt
 over-facts s at e = go (leb (length s) at) (unended s at) refl refl e
   where
-    go : (a b : Bool) → leb (length s) at ≡ a → unended s at ≡ b → cond a Over (cond b Unended (Line (at + length (lineAt s at)))) ≡ Over → leb (length s) at ≡ true
+    go : (a b : Bool) → leb (length s) at ≡ a → unended s at ≡ b → cond a Over (cond b Unended (Line (at + length (lineAt s at)))) ≡ Over
+        → leb (length s) at ≡ true
     go true b p q r = p
     go false true p q r = never (cc)
     go false false p q r = never (cc)
@@ -96,7 +105,9 @@ over-facts s at e = go (leb (length s) at) (unended s at) refl refl e
 -- no line where none ends
 pub unended-line : (s : List ℕ) (at : ℕ) → foundAt s at ≡ Unended → [] ≡ lineAt s at
 unfolding unended
-unended-line s at e = sym (line-none s at (not-true (hasLF (drop at s)) (and-right (ltb at (length s)) (not (hasLF (drop at s))) (unended-facts s at e .1))))
+unended-line s at e =
+    let none = and-right (ltb at (length s)) (not (hasLF (drop at s))) (unended-facts s at e .1) in
+    sym (line-none s at (not-true (hasLF (drop at s)) none))
 
 pub over-line : (s : List ℕ) (at : ℕ) → foundAt s at ≡ Over → [] ≡ lineAt s at
 over-line s at e = sym (line-none s at (has-none s at (leb-true (length s) at (over-facts s at e))))
@@ -110,11 +121,41 @@ pub next-unended : (s : List ℕ) (at line : ℕ) → foundAt s at ≡ Unended �
 unfolding nextAt
 next-unended s at line e = rw (unended-facts s at e .0, unended-facts s at e .1)
 
-pub next-line : (s : List ℕ) (at end line : ℕ) → foundAt s at ≡ Line end → inTurn (eqb at 0) (end + 1) (readLine line (take (end - at) (drop at s))) ≡ nextAt s at line
+pub next-line : (s : List ℕ) (at end line : ℕ) → foundAt s at ≡ Line end
+    → inTurn (eqb at 0) (end + 1) (readLine line (take (end - at) (drop at s))) ≡ nextAt s at line
 unfolding nextAt
 next-line s at end line e =
     let x = line-facts s at end e in
     rw (x .left, x .has, x .part, x .after)
+
+-- a refused line stands before the journal's end, and only the end is the end
+turn-goes : (first : Bool) (k : ℕ) (l : Said) → inTurn first k l ≡ End → _≡_ {A = ℕ} 0 1
+turn-goes true k (Begin n) e = cc
+turn-goes true k (Act x) e = cc
+turn-goes true k (Refused j) e = cc
+turn-goes false k (Begin n) e = cc
+turn-goes false k (Act x) e = cc
+turn-goes false k (Refused j) e = cc
+
+pub refused-inside : (s : List ℕ) (at line : ℕ) {k : ℕ} → nextAt s at line ≡ RefusedAt k → leb (length s) at ≡ false
+unfolding nextAt
+refused-inside s at line {k} e = go (leb (length s) at) refl e
+  where
+    go : (a : Bool) → leb (length s) at ≡ a
+        → cond a End (cond (unended s at) (RefusedAt 14) (inTurn (eqb at 0) (placeAfter s at) (readLine line (lineAt s at)))) ≡ RefusedAt k
+        → leb (length s) at ≡ false
+    go true p r = never (cc)
+    go false p r = p
+
+pub end-over : (s : List ℕ) (at line : ℕ) → nextAt s at line ≡ End → leb (length s) at ≡ true
+unfolding nextAt
+end-over s at line e = go (leb (length s) at) (unended s at) refl e
+  where
+    go : (a b : Bool) → leb (length s) at ≡ a
+        → cond a End (cond b (RefusedAt 14) (inTurn (eqb at 0) (placeAfter s at) (readLine line (lineAt s at)))) ≡ End → leb (length s) at ≡ true
+    go true b p r = p
+    go false true p r = never (cc)
+    go false false p r = never (turn-goes (eqb at 0) (placeAfter s at) (readLine line (lineAt s at)) r)
 
 -- a refused line is refused in any turn
 pub turn-refused : (first : Bool) (k j : ℕ) → RefusedAt j ≡ inTurn first k (Refused j)
@@ -136,11 +177,27 @@ turn-on false k to (Begin n) e = never (cc)
 turn-on false k to (Act x) e = eqb-true k to e
 turn-on false k to (Refused j) e = never (cc)
 
--- the line before the place that the reader goes on to
+-- the line before the place that the reader goes on to, and the LF that ends it
 pub record Passed (s : List ℕ) (at next : ℕ) : Type 0 where
   pub start : at < next
   pub within : next ≤ length s
   pub part : take (next - 1 - at) (drop at s) ≡ lineAt s at
+  pub left : leb (length s) at ≡ false
+  pub lf : getD s (next - 1) 0 ≡ 10
+
+until-lf : (l : List ℕ) → hasLF l ≡ true → getD l (length (untilLF l)) 0 ≡ 10
+unfolding untilLF hasLF
+until-lf [] e = never (cc)
+until-lf (c ∷ cs) e = go (eqb c 10) refl e (until-lf cs)
+  where
+    go : (b : Bool) → eqb c 10 ≡ b → (b || hasLF cs) ≡ true → (hasLF cs ≡ true → getD cs (length (untilLF cs)) 0 ≡ 10)
+        → getD (c ∷ cs) (length (unlessLF b c (untilLF cs))) 0 ≡ 10
+    go true p q r = eqb-true c 10 p
+    go false p q r = r q
+
+-- the byte at the end of a line is its LF
+ended-lf : (s : List ℕ) (at end : ℕ) → hasLF (drop at s) ≡ true → at + length (untilLF (drop at s)) ≡ end → getD s end 0 ≡ 10
+ended-lf s at end h e = ap (λ (i : ℕ). getD s i 0) (sym e) ∙ sym (getD-drop at s (length (untilLF (drop at s))) 0) ∙ until-lf (drop at s) h
 
 passed : (s : List ℕ) (at line next : ℕ) (x : Next) → nextAt s at line ≡ x → onTo next x ≡ true → Passed s at next
 unfolding nextAt placeAfter
@@ -153,7 +210,9 @@ passed s at line next x e on = go (leb (length s) at) (unended s at) refl refl e
     go false false p q r =
         let k : placeAfter s at ≡ next = turn-on (eqb at 0) (placeAfter s at) next (readLine line (lineAt s at)) (ap (onTo next) r ∙ on) in
         let f : Ended s at (next - 1) = ended-facts s at (next - 1) p q (omega arith) in
-        record { start = omega arith; within = omega arith; part = f .part }
+        let has : hasLF (drop at s) ≡ true = ended-has s at (leb-false (length s) at p) q in
+        let len : length (lineAt s at) ≡ length (untilLF (drop at s)) = ap length (line-ended s at has) in
+        record { start = omega arith; within = omega arith; part = f .part; left = p; lf = ended-lf s at (next - 1) has (omega arith) }
 
 pub begun : (s : List ℕ) (at line : ℕ) {n next : ℕ} → nextAt s at line ≡ BeginAt n next → Passed s at next
 begun s at line {n} {next} e = passed s at line next (BeginAt n next) e (eq-eqb next next refl)

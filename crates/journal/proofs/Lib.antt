@@ -1,2 +1,4 @@
 pub mod Finding
+pub mod Agreeing
+pub mod Values
 pub mod OneReply

@@ -1,13 +1,40 @@
--- What the line finder answers, by the definitions of a line. Document 01, "Frames and journals".
-use mathlib.Core.Bool.{cond}
-use mathlib.Core.List.{List}
-use Prim.Native.Nat.{ℕ, _+_}
+-- What the line finder answers, by the definitions of a line, and the values of what it and the reader answer, by place and bytes.
+-- Document 01, "Frames and journals".
+use mathlib.Core.Bool.{Bool, true, false, cond}
+use mathlib.Core.List.{List, [], _∷_, _++_}
+use Prim.Native.Nat.{ℕ, zero, suc, _+_}
 use lib.ListN.{length}
-use lib.Dec.{leb}
+use lib.Dec.{leb, eqb}
 use Rattle.journal.specs.declared.Found.{Found}
 use Rattle.journal.specs.declared.Found.the-variants.{Line, Unended, Over}
-use Rattle.meaning.specs.Journals.{unended, lineAt}
+use Rattle.meaning.specs.Frames.{readLine, lineValues}
+use Rattle.meaning.specs.Journals.{unended, lineAt, placeAfter}
 
 -- "At the end or beyond it says so"; "bytes are left but no LF follows"; else the place of the LF that ends the line
 unfoldable pub foundAt : List ℕ → ℕ → Found
 foundAt s at = cond (leb (length s) at) Over (cond (unended s at) Unended (Line (at + length (lineAt s at))))
+
+-- Document 01's values of each answer: the refusal (0 for none), then the place of the LF that ends a line
+abbrev pub foundValues : Found → List ℕ
+foundValues (Line end) = 0 ∷ end ∷ []
+foundValues Unended = 14 ∷ []
+foundValues Over = 0 ∷ []
+
+-- "the first line is no start, a later line is one": whether a line of this kind comes in its turn
+abbrev pub isTurn : Bool → Bool → Bool
+isTurn true start = start
+isTurn false true = false
+isTurn false false = true
+
+-- the values of a line in its turn, with the place after it; 15 out of turn; a refused line's own number
+abbrev pub turnValues : Bool → ℕ → List ℕ → List ℕ
+turnValues first next [] = []
+turnValues first next (suc k ∷ vs) = suc k ∷ []
+turnValues first next (zero ∷ []) = 0 ∷ []
+turnValues first next (zero ∷ (kind ∷ fields)) = cond (isTurn first (eqb kind 0)) (0 ∷ kind ∷ (fields ++ (next ∷ []))) (15 ∷ [])
+
+-- the values of what the reader finds, by place and bytes: none at the end or beyond, 14, else those of the line there
+abbrev pub readValues : List ℕ → ℕ → ℕ → List ℕ
+readValues s at line =
+    cond (leb (length s) at) (0 ∷ [])
+    (cond (unended s at) (14 ∷ []) (turnValues (eqb at 0) (placeAfter s at) (lineValues (readLine line (lineAt s at)))))

@@ -11,87 +11,109 @@ use Rattle.meaning.specs.declared.Record.{Record}
 use Rattle.meaning.specs.declared.Action.{Action}
 use Rattle.meaning.specs.declared.Action.the-variants.{Write, Session, Purge}
 use Rattle.meaning.specs.declared.Step.{Step}
-use Rattle.meaning.specs.Rows.{covers}
-use Rattle.meaning.specs.Table.{nodesMost, count, node, fresh}
+use Rattle.meaning.specs.Rows.{all, covers}
+use Rattle.meaning.specs.Table.{nodesMost, count, node, fresh, Sound}
 use Rattle.meaning.specs.Node.{purged}
 use Rattle.meaning.specs.Steps.{finishesA, finishesB, refusal, limit}
-use Rattle.meaning.specs.Frames.{widths, wide}
+use Rattle.meaning.specs.Frames.{journalKinds, widthsIn, wide}
 use Rattle.meaning.specs.Journals.{afterAll}
-use Rattle.meaning.specs.Account.{has, lacking, Account, nothing, gains, gainsIf, noted, Run, noteIf, stepped, ran, run}
-use Rattle.meaning.proofs.RowLaws.{all, and-left, and-right, and-both}
+use Rattle.meaning.specs.Account.{
+  has,
+  lacking,
+  Account,
+  nothing,
+  gains,
+  gainsIf,
+  noted,
+  Run,
+  noteIf,
+  stepped,
+  Event,
+  AStep,
+  events,
+  befell,
+  ran,
+  run,
+}
+use Rattle.meaning.proofs.RowLaws.{and-left, and-right, and-both}
 use Rattle.meaning.proofs.AccountLaws.{by-test, has-append, sublist-has, le-covers}
 use Rattle.meaning.proofs.AccountInvariant.{log-written}
 use Rattle.meaning.proofs.AccountNodes.{purged-dropping}
-use Rattle.meaning.proofs.TableLaws.{Sound}
 use Rattle.meaning.proofs.StepLaws.{verdictOf, after-sound, fresh-sound}
 use Rattle.meaning.proofs.AccountTable.{Sure, limit-low, sure-run}
 use Rattle.meaning.proofs.Demand3.{demand3}
 
-module _ (n : ℕ) (lo : 2 ≤ n) (hi : n ≤ nodesMost) (ss : List Step) where
-  sure : Sure n (run n ss)
-  sure = sure-run n lo hi ss
+module _ (n : ℕ) (lo : 2 ≤ n) (hi : n ≤ nodesMost) (es : List Event) where
+  sure : Sure n (run n es)
+  sure = sure-run n lo hi es
 
   -- the table keeps its number of nodes
-  pub run-count : count (run n ss .table) ≡ n
+  pub run-count : count (run n es .table) ≡ n
   run-count = sure .counted
 
   module _ (p : ℕ) (below : p < n) (r : Record) where
     -- a record in a log is one that was written, word for word
-    pub held-written : has r (node (run n ss .table) p .log) ≡ true → has r (run n ss .account .written) ≡ true
-    held-written h = log-written n _ (node (run n ss .table) p .summary) (node (run n ss .table) p .log) (run n ss .account .of p) r (sure .whole .holds p below .kept) h
+    pub held-written : has r (node (run n es .table) p .log) ≡ true → has r (run n es .account .written) ≡ true
+    held-written h =
+        log-written n _ (node (run n es .table) p .summary) (node (run n es .table) p .log) (run n es .account .of p) r (sure .whole .holds p below .kept) h
 
     -- a record that a purge of p removes is in every node's account
-    pub purge-known : has r (node (run n ss .table) p .log) ≡ true → has r (purged (limit (run n ss .table) p) (node (run n ss .table) p) .log) ≡ false → (q : ℕ) → q < n →
-        has r (run n ss .account .of q) ≡ true
+    pub purge-known :
+        has r (node (run n es .table) p .log) ≡ true → has r (purged (limit (run n es .table) p) (node (run n es .table) p) .log) ≡ false →
+        (q : ℕ) → q < n → has r (run n es .account .of q) ≡ true
     purge-known h gone q j =
         let w = held-written h in
         let k = sure .whole .holds p below in
-        let c = purged-dropping n _ (limit (run n ss .table) p) (node (run n ss .table) p) (run n ss .account .of p) (sure .whole .stamped) (k .kept) (k .acked) (limit-low _ p n (k .acked .wide)) .gone r h gone q j in
-        sure .whole .holds q j .kept .exact r ∙ and-both (has r (run n ss .account .written)) (covers (node (run n ss .table) q .summary) r) w c
+        let dropping =
+        purged-dropping n _ (limit (run n es .table) p) (node (run n es .table) p) (run n es .account .of p) (sure .whole .stamped) (k .kept) (k .acked)
+        (limit-low _ p n (k .acked .wide))
+        in
+        let c = dropping .gone r h gone q j in
+        sure .whole .holds q j .kept .exact r ∙ and-both (has r (run n es .account .written)) (covers (node (run n es .table) q .summary) r) w c
 
   -- a written record is held in its writer's log, or it is in every node's account
-  pub written-somewhere : (r : Record) → has r (run n ss .account .written) ≡ true →
-      ((r .origin < n) × (has r (node (run n ss .table) (r .origin) .log) ≡ true)) ⊎ ((q : ℕ) → q < n → has r (run n ss .account .of q) ≡ true)
+  pub written-somewhere : (r : Record) → has r (run n es .account .written) ≡ true →
+      ((r .origin < n) × (has r (node (run n es .table) (r .origin) .log) ≡ true)) ⊎ ((q : ℕ) → q < n → has r (run n es .account .of q) ≡ true)
   written-somewhere r w =
       let o = sure .whole .stamped .origin r w in
       let k = sure .whole .holds (r .origin) o .kept in
-      let c = le-covers (node (run n ss .table) (r .origin) .summary) r (sure .whole .stamped .reached r w) in
-      let a = k .exact r ∙ and-both (has r (run n ss .account .written)) (covers (node (run n ss .table) (r .origin) .summary) r) w c in
-      by-test (has r (node (run n ss .table) (r .origin) .log)) (λ h. inl (o, h)) (λ h. inr (demand3 n lo hi ss (r .origin) o .missing r a h))
+      let c = le-covers (node (run n es .table) (r .origin) .summary) r (sure .whole .stamped .reached r w) in
+      let a = k .exact r ∙ and-both (has r (run n es .account .written)) (covers (node (run n es .table) (r .origin) .summary) r) w c in
+      by-test (has r (node (run n es .table) (r .origin) .log)) (λ h. inl (o, h)) (λ h. inr (demand3 n lo hi es (r .origin) o .missing r a h))
 
   -- no record is written twice, and two written records of one writer and one timestamp are one
-  pub written-once : List·Nodup (run n ss .account .written)
+  pub written-once : List·Nodup (run n es .account .written)
   written-once = sure .whole .once
 
-  pub written-single : (r s : Record) → has r (run n ss .account .written) ≡ true → has s (run n ss .account .written) ≡ true → r .origin ≡ s .origin →
+  pub written-single : (r s : Record) → has r (run n es .account .written) ≡ true → has s (run n es .account .written) ≡ true → r .origin ≡ s .origin →
       r .timestamp ≡ s .timestamp → r ≡ s
   written-single = sure .whole .stamped .single
 
   -- a node's log never holds one record twice
-  pub log-once : (p : ℕ) → p < n → List·Nodup (node (run n ss .table) p .log)
-  log-once p h = Pairwise·sublistᴰ (demand3 n lo hi ss p h .less) (demand3 n lo hi ss p h .once)
+  pub log-once : (p : ℕ) → p < n → List·Nodup (node (run n es .table) p .log)
+  log-once p h = Pairwise·sublistᴰ (demand3 n lo hi es p h .less) (demand3 n lo hi es p h .once)
 
--- A list of steps after another, so that whatever holds of every list holds after every step of a longer one.
-pub ran-append : (x : Run) (ss ts : List Step) → ran x (ss ++ ts) ≡ ran (ran x ss) ts
+-- A list of events after another, so that whatever holds of every list holds after every event of a longer one.
+pub ran-append : (x : Run) (es fs : List Event) → ran x (es ++ fs) ≡ ran (ran x es) fs
 unfolding ran
-ran-append x [] ts = refl
-ran-append x (s ∷ ss) ts = ran-append (stepped x s) ss ts
+ran-append x [] fs = refl
+ran-append x (e ∷ es) fs = ran-append (befell x e) es fs
 
-pub run-append : (n : ℕ) (ss ts : List Step) → run n (ss ++ ts) ≡ ran (run n ss) ts
+pub run-append : (n : ℕ) (es fs : List Event) → run n (es ++ fs) ≡ ran (run n es) fs
 unfolding run
-run-append n ss ts = ran-append (record { table = fresh n; account = nothing }) ss ts
+run-append n es fs = ran-append (record { table = fresh n; account = nothing }) es fs
 
--- The table of a run is the table after all its steps, as the journals' definitions have it.
-pub ran-table : (x : Run) (ss : List Step) → ran x ss .table ≡ afterAll (x .table) ss
-unfolding ran afterAll stepped
+-- The table of a run of steps is the table after all of them, as the journals' definitions have it.
+pub ran-table : (x : Run) (ss : List Step) → ran x (events ss) .table ≡ afterAll (x .table) ss
+unfolding ran befell afterAll stepped
 ran-table x [] = refl
 ran-table x (s ∷ ss) = ran-table (stepped x s) ss
 
-pub run-table : (n : ℕ) (ss : List Step) → run n ss .table ≡ afterAll (fresh n) ss
+pub run-table : (n : ℕ) (ss : List Step) → run n (events ss) .table ≡ afterAll (fresh n) ss
 unfolding run
 run-table n ss = ran-table (record { table = fresh n; account = nothing }) ss
 
--- The account never drops a record: a step only puts records after those that an account has --------------------------------------------------------
+-- The account never drops a record: an event only puts records after those that an account has --------------------------------------------------------
 
 gains-more : (p : ℕ) (new : List Record) (of : ℕ → List Record) (q : ℕ) → (l : List Record) × (gains p new of q ≡ of q ++ l)
 unfolding gains
@@ -115,34 +137,42 @@ noteIf-more : (k : ℕ) (a : Action) (x : Account) (q : ℕ) → (l : List Recor
 noteIf-more zero a x q = noted-more a x q
 noteIf-more (suc k) a x q = ([], sym (append-nil (x .of q)))
 
-pub never-dropped : (x : Run) (ss : List Step) (q : ℕ) → (l : List Record) × (ran x ss .account .of q ≡ x .account .of q ++ l)
-unfolding ran stepped
+befell-more : (x : Run) (e : Event) (q : ℕ) → (l : List Record) × (befell x e .account .of q ≡ x .account .of q ++ l)
+unfolding befell stepped
+befell-more x (AStep s) q = noteIf-more (refusal (x .table) (s .action)) (s .action) (x .account) q
+
+pub never-dropped : (x : Run) (es : List Event) (q : ℕ) → (l : List Record) × (ran x es .account .of q ≡ x .account .of q ++ l)
+unfolding ran
 never-dropped x [] q = ([], sym (append-nil (x .account .of q)))
-never-dropped x (s ∷ ss) q =
-    let f = noteIf-more (refusal (x .table) (s .action)) (s .action) (x .account) q in
-    let g = never-dropped (stepped x s) ss q in
+never-dropped x (e ∷ es) q =
+    let f = befell-more x e q in
+    let g = never-dropped (befell x e) es q in
     (f .0 ++ g .0, g .1 ∙ ap (λ (l : List Record). l ++ g .0) (f .1) ∙ append-assoc (x .account .of q) (f .0) (g .0))
 
 -- A record that a log has held and no longer holds, at whatever later point, is by then in every node's account.
-pub left-known : (n : ℕ) → 2 ≤ n → n ≤ nodesMost → (ss ts : List Step) (p : ℕ) → p < n → (r : Record) → has r (node (run n ss .table) p .log) ≡ true →
-    has r (node (run n (ss ++ ts) .table) p .log) ≡ false → (q : ℕ) → q < n → has r (run n (ss ++ ts) .account .of q) ≡ true
-left-known n lo hi ss ts p below r h gone =
-    let a = sublist-has (node (run n ss .table) p .log) (run n ss .account .of p) r (demand3 n lo hi ss p below .less) h in
-    let m = never-dropped (run n ss) ts p in
-    let b : has r (run n (ss ++ ts) .account .of p) ≡ true =
-    ap (λ (x : Run). has r (x .account .of p)) (run-append n ss ts) ∙ ap (has r) (m .1) ∙ has-append r (run n ss .account .of p) (m .0) ∙ ap (λ (t : Bool). t || has r (m .0)) a
+pub left-known :
+    (n : ℕ) → 2 ≤ n → n ≤ nodesMost → (es fs : List Event) (p : ℕ) → p < n → (r : Record) → has r (node (run n es .table) p .log) ≡ true →
+    has r (node (run n (es ++ fs) .table) p .log) ≡ false → (q : ℕ) → q < n → has r (run n (es ++ fs) .account .of q) ≡ true
+left-known n lo hi es fs p below r h gone =
+    let a = sublist-has (node (run n es .table) p .log) (run n es .account .of p) r (demand3 n lo hi es p below .less) h in
+    let m = never-dropped (run n es) fs p in
+    let b : has r (run n (es ++ fs) .account .of p) ≡ true =
+    ap (λ (x : Run). has r (x .account .of p)) (run-append n es fs) ∙
+    ap (has r) (m .1) ∙
+    has-append r (run n es .account .of p) (m .0) ∙
+    ap (λ (t : Bool). t || has r (m .0)) a
     in
-    demand3 n lo hi (ss ++ ts) p below .missing r b gone
+    demand3 n lo hi (es ++ fs) p below .missing r b gone
 
 -- Soundness at every point ---------------------------------------------------------------------------------------------------------------------
 
 -- every step's verdict is a byte, as in every step that code can make: the field is as wide as in the frame
-abbrev pub allWide : List Step → Bool
-allWide ss = all (λ (s : Step). wide (s .action)) ss
+abbrev pub wideEvent : Event → Bool
+wideEvent (AStep s) = wide (s .action)
 
 -- such a step's verdict keeps a table sound
 wide-verdict : (a : Action) → wide a ≡ true → verdictOf a ≤ 255
-unfolding wide widths
+unfolding wide widthsIn journalKinds
 wide-verdict (Write p c b v) h =
     let d = ltb v 256 in
     let e = ltb b 4294967296 in
@@ -153,13 +183,16 @@ wide-verdict (Session a b ca cb o) h = omega arith
 wide-verdict (Purge p) h = omega arith
 
 -- a sound table stays sound through every such list, so from a fresh one every table of a run is sound
-pub ran-sound : (x : Run) (ss : List Step) → allWide ss ≡ true → Sound (x .table) → Sound (ran x ss .table)
-unfolding ran stepped all
-ran-sound x [] h s = s
-ran-sound x (s ∷ ss) h k =
-    ran-sound (stepped x s) ss (and-right (wide (s .action)) (all (λ (y : Step). wide (y .action)) ss) h)
-    (after-sound (x .table) (s .action) (wide-verdict (s .action) (and-left (wide (s .action)) (all (λ (y : Step). wide (y .action)) ss) h)) k)
+befell-sound : (x : Run) (e : Event) → wideEvent e ≡ true → Sound (x .table) → Sound (befell x e .table)
+unfolding befell stepped
+befell-sound x (AStep s) h k = after-sound (x .table) (s .action) (wide-verdict (s .action) h) k
 
-pub run-sound : (n : ℕ) → 2 ≤ n → n ≤ nodesMost → (ss : List Step) → allWide ss ≡ true → Sound (run n ss .table)
+pub ran-sound : (x : Run) (es : List Event) → all wideEvent es ≡ true → Sound (x .table) → Sound (ran x es .table)
+unfolding ran all
+ran-sound x [] h k = k
+ran-sound x (e ∷ es) h k =
+    ran-sound (befell x e) es (and-right (wideEvent e) (all wideEvent es) h) (befell-sound x e (and-left (wideEvent e) (all wideEvent es) h) k)
+
+pub run-sound : (n : ℕ) → 2 ≤ n → n ≤ nodesMost → (es : List Event) → all wideEvent es ≡ true → Sound (run n es .table)
 unfolding run
-run-sound n lo hi ss h = ran-sound (record { table = fresh n; account = nothing }) ss h (fresh-sound n lo hi)
+run-sound n lo hi es h = ran-sound (record { table = fresh n; account = nothing }) es h (fresh-sound n lo hi)

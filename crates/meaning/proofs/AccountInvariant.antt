@@ -15,7 +15,24 @@ use Rattle.meaning.specs.declared.Record.{Record}
 use Rattle.meaning.specs.Rows.{covers, newer}
 use Rattle.meaning.specs.Account.{sameRecord, has, lacking}
 use Rattle.meaning.proofs.RowLaws.{and-left}
-use Rattle.meaning.proofs.AccountLaws.{by-test, not-both, same-eq, has-append, has-one, sublist-has, has-lacking, once-lacking, keep-same, once-append, entry, covers-le, le-covers, lt-covers, covers-same, covers-max}
+use Rattle.meaning.proofs.AccountLaws.{
+  by-test,
+  not-both,
+  same-eq,
+  has-append,
+  has-one,
+  sublist-has,
+  has-lacking,
+  once-lacking,
+  keep-same,
+  once-append,
+  entry,
+  covers-le,
+  le-covers,
+  lt-covers,
+  covers-same,
+  covers-max,
+}
 
 -- What a node is measured against: all that was written, and every node's summary.
 pub record World : Type 0 where

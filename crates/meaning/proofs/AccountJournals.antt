@@ -1,36 +1,25 @@
 -- Demand 3 of journals: the table that a journal's replay leaves is the table of a run, so no finding of a journal is lost.
 use mathlib.Core.Path.{_≡_, refl, sym, ap, _∙_}
-use mathlib.Core.Bool.{Bool, true, false, not, _&&_, _||_, cond}
+use mathlib.Core.Bool.{Bool, true, false, not, _&&_, cond}
 use mathlib.Core.Logic.{_⊎_, inl, inr}
 use mathlib.Core.List.{List}
-use Prim.Native.Nat.{ℕ, zero, suc, _%_, _<_}
+use Prim.Native.Nat.{ℕ, zero, suc, _<_}
 use native.Mathlib.Omega.{arith}
 use lib.ListN.{length, getD}
-use lib.Dec.{leb, ltb, eqb}
+use lib.Dec.{leb, eqb}
 use borrow.Author.Tests.{leb-true, not-false}
 use Rattle.meaning.specs.declared.Line.{Line}
 use Rattle.meaning.specs.declared.Line.the-variants.{Begin, Act, Refused}
 use Rattle.meaning.specs.declared.Next.{Next}
 use Rattle.meaning.specs.declared.Next.the-variants.{Begin as BeginAt, Act as ActAt, Refused as RefusedAt, End}
-use Rattle.meaning.specs.Rows.{given}
 use Rattle.meaning.specs.Table.{nodesMost, countRight, fresh}
-use Rattle.meaning.specs.Frames.{kinds, bytesOf, allDigits, total, digitsOf, lineKind, lineFields, lineRefusal, meant, lineIs, readLine}
+use Rattle.meaning.specs.Frames.{bytesOf, lineKind, lineFields, lineRefusal, meant, lineIs, readLine}
 use Rattle.meaning.specs.Journals.{unended, lineAt, placeAfter, inTurn, nextAt, journal, startedFrom, afterAll, replayAfter}
-use Rattle.meaning.specs.Account.{run}
+use Rattle.meaning.specs.Account.{events, run}
+use Rattle.meaning.proofs.FrameLaws.{good}
 use Rattle.meaning.proofs.RowLaws.{and-left, and-right}
 use Rattle.meaning.proofs.AccountCorollaries.{run-table}
 use Rattle.meaning.proofs.Demand3.{NothingLost, demand3}
-
--- where no refusal of a line applies, the last does not
-last-none : (a b c d e f g : Bool) → given a 12 (given b 11 (given c 11 (given d 11 (given e 11 (given f 13 (given g 15 0)))))) ≡ 0 → g ≡ false
-last-none true b c d e f g h = absurd (omega arith)
-last-none false true c d e f g h = absurd (omega arith)
-last-none false false true d e f g h = absurd (omega arith)
-last-none false false false true e f g h = absurd (omega arith)
-last-none false false false false true f g h = absurd (omega arith)
-last-none false false false false false true g h = absurd (omega arith)
-last-none false false false false false false true h = absurd (omega arith)
-last-none false false false false false false false h = refl
 
 -- a start that is not refused has 2 to 16 nodes
 abbrev lineRight : Line → Bool
@@ -47,15 +36,11 @@ lineIs-right zero x h = h refl
 lineIs-right (suc k) x h = refl
 
 line-right : (line : ℕ) (l : List ℕ) → lineRight (readLine line l) ≡ true
-unfolding readLine lineRefusal
+unfolding readLine
 line-right line l =
     let bs = bytesOf l in
-    let kind = lineKind bs in
-    lineIs-right (lineRefusal l) (meant line bs (eqb kind 0))
-    (λ h.
-    meant-right line bs (eqb kind 0)
-    (last-none (not (allDigits l)) (eqb (length l % 2) 1 || eqb (length l) 0) (leb (length kinds) kind) (not (eqb (length l) (digitsOf kind)))
-    (eqb kind 2 && ltb 3 (getD (lineFields bs) 4 0)) (not (eqb (total bs) 0)) (eqb kind 0 && not (countRight (getD (lineFields bs) 0 0))) h))
+    let start = eqb (lineKind bs) 0 in
+    lineIs-right (lineRefusal l) (meant line bs start) (λ h. meant-right line bs start (good l h .start))
 
 abbrev nextRight : Next → Bool
 nextRight (BeginAt n next) = countRight n
@@ -103,15 +88,16 @@ started (suc n) t h = refl
 -- DEMAND 3 of journals: whatever words were lent and whatever the journal holds, the table after its replay is that of the run of its steps, up to
 -- the end or the first refused line, and at each of its nodes nothing is lost.
 pub journal-demand3 : (t s : List ℕ) (p : ℕ) → p < journal s .n →
-    (replayAfter t s ≡ run (journal s .n) (journal s .rest .steps) .table) × NothingLost (journal s .n) (run (journal s .n) (journal s .rest .steps)) p
+    (replayAfter t s ≡ run (journal s .n) (events (journal s .rest .steps)) .table) ×
+    NothingLost (journal s .n) (run (journal s .n) (events (journal s .rest .steps))) p
 unfolding replayAfter
 journal-demand3 t s p h = (
   ap (λ (u : List ℕ). afterAll u (journal s .rest .steps)) (started (journal s .n) t (omega arith)) ∙ sym (run-table (journal s .n) (journal s .rest .steps)),
   within (journal-right s),
 )
   where
-    within : (journal s .n ≡ 0) ⊎ (countRight (journal s .n) ≡ true) → NothingLost (journal s .n) (run (journal s .n) (journal s .rest .steps)) p
+    within : (journal s .n ≡ 0) ⊎ (countRight (journal s .n) ≡ true) → NothingLost (journal s .n) (run (journal s .n) (events (journal s .rest .steps))) p
     within (inl e) = absurd (omega arith)
     within (inr c) =
         demand3 (journal s .n) (leb-true 2 (journal s .n) (and-left (leb 2 (journal s .n)) (leb (journal s .n) nodesMost) c))
-        (leb-true (journal s .n) nodesMost (and-right (leb 2 (journal s .n)) (leb (journal s .n) nodesMost) c)) (journal s .rest .steps) p h
+        (leb-true (journal s .n) nodesMost (and-right (leb 2 (journal s .n)) (leb (journal s .n) nodesMost) c)) (events (journal s .rest .steps)) p h

@@ -12,27 +12,23 @@ use Rattle.meaning.specs.Rows.{least}
 use Rattle.meaning.specs.Table.{Node, nodesMost, count, node}
 use Rattle.meaning.specs.Node.{own, wrote, opened, finished, ended, purged}
 use Rattle.meaning.specs.Steps.{finishesA, finishesB, refusal, limit, acted}
-use Rattle.meaning.specs.Account.{Account, Run, stepped, ran, run}
+use Rattle.meaning.specs.Account.{Account, Run, stepped, Event, AStep, befell, ran, run}
 use Rattle.meaning.proofs.AccountLaws.{entry, le-least, raise-entry}
-use Rattle.meaning.proofs.TableLaws.{node-shaped}
+use Rattle.meaning.proofs.TableLaws.{node-shaped, node-same, node-other}
 use Rattle.meaning.proofs.StepLaws.{
-  Accepted,
-  accepted,
-  wrote-shaped,
-  purged-shaped,
+  may-write,
+  may-meet,
+  may-purge,
+  write-shaped,
+  purge-shaped,
   opened-shaped,
   session-a,
   session-b,
   session-other,
-  one-same,
-  one-other,
-  write-facts,
-  purge-facts,
-  session-facts,
 }
 use Rattle.meaning.proofs.AccountSteps.{Whole, each}
 use Rattle.meaning.proofs.AccountNodes.{set-up}
-use Rattle.meaning.proofs.AccountTable.{Sure, sure-run, sure-stepped, stepped-accepted, stepped-refused}
+use Rattle.meaning.proofs.AccountTable.{Sure, sure-run, sure-befell, stepped-accepted, stepped-refused}
 use Rattle.meaning.proofs.AccountCorollaries.{run-append}
 
 -- a node whose entries are each no less than another's
@@ -83,62 +79,70 @@ rises-ended n false mine theirs e f = rises-refl mine
 rises-at : (x y z : Node) → y ≡ z → Rises x z → Rises x y
 rises-at x y z e r = rw e r
 
-rises-acted : (t : List ℕ) (a : Action) (x : Account) → Accepted t a → Whole (count t) (node t) x → (q : ℕ) → q < count t → Rises (node t q) (node (acted t a) q)
+rises-acted :
+    (t : List ℕ) (a : Action) (x : Account) → refusal t a ≡ 0 → Whole (count t) (node t) x → (q : ℕ) → q < count t →
+    Rises (node t q) (node (acted t a) q)
 unfolding acted
 rises-acted t (Write p c b v) x k w =
-    let f = write-facts t p c b v k in
-    let s = k .isSound in
+    let m = may-write t p c b v k in
+    let s = m .isSound in
     let y = wrote p c b v (node t p) in
-    let fits = wrote-shaped (count t) (node t p) (node-shaped t s p (f .0)) p c b v (f .2) in
-    let long = node-shaped t s p (f .0) .summaryLong in
+    let fits = write-shaped t p c b v m in
+    let long = node-shaped t s p (m .here) .summaryLong in
     each (λ (q : ℕ). Rises (node t q) (node (acted t (Write p c b v)) q)) (count t) p
-    (rises-at (node t p) (node (acted t (Write p c b v)) p) y (one-same t s p (f .0) y fits) (rises-wrote p c b v (node t p) (omega (arith, f .0)) (f .1)))
-    (λ q h ne. rises-at (node t q) (node (acted t (Write p c b v)) q) (node t q) (one-other t s p (f .0) y fits q h ne) (rises-refl (node t q)))
+    (rises-at (node t p) (node (acted t (Write p c b v)) p) y (node-same t s p (m .here) y fits)
+    (rises-wrote p c b v (node t p) (omega (arith, m .here)) (m .later)))
+    (λ q h ne. rises-at (node t q) (node (acted t (Write p c b v)) q) (node t q) (node-other t s p (m .here) y fits q h ne) (rises-refl (node t q)))
 rises-acted t (Session a b ca cb o) x k w =
-    let f = session-facts t a b ca cb o k in
-    let s = k .isSound in
+    let m = may-meet t a b ca cb o k in
+    let s = m .isSound in
     let y = opened a ca (node t a) in
     let z = opened b cb (node t b) in
-    let fa = opened-shaped (count t) (node t a) (node-shaped t s a (f .0)) a ca in
-    let fb = opened-shaped (count t) (node t b) (node-shaped t s b (f .1)) b cb in
+    let fa = opened-shaped (count t) (node t a) (node-shaped t s a (m .hereA)) a ca in
+    let fb = opened-shaped (count t) (node t b) (node-shaped t s b (m .hereB)) b cb in
     each (λ (q : ℕ). Rises (node t q) (node (acted t (Session a b ca cb o)) q)) (count t) a
-    (rises-at (node t a) (node (acted t (Session a b ca cb o)) a) (ended (finishesA o) y z) (session-a t s a b ca cb o (f .0) (f .1) (f .2) (k .room))
-    (rises-trans (node t a) y (ended (finishesA o) y z) (rises-opened (count t) a ca (node t) x (f .0) (f .3) w)
+    (rises-at (node t a) (node (acted t (Session a b ca cb o)) a) (ended (finishesA o) y z) (session-a t a b ca cb o m)
+    (rises-trans (node t a) y (ended (finishesA o) y z) (rises-opened (count t) a ca (node t) x (m .hereA) (m .clockA) w)
     (rises-ended (count t) (finishesA o) y z (fa .summaryLong ∙ sym (fb .summaryLong)) (fa .acksLong ∙ sym (fb .acksLong)))))
     (λ i j ne.
     each (λ (q : ℕ). (q ≡ a → ⊥) → Rises (node t q) (node (acted t (Session a b ca cb o)) q)) (count t) b
     (λ na.
-    rises-at (node t b) (node (acted t (Session a b ca cb o)) b) (ended (finishesB o) z y) (session-b t s a b ca cb o (f .0) (f .1) (f .2) (k .room))
-    (rises-trans (node t b) z (ended (finishesB o) z y) (rises-opened (count t) b cb (node t) x (f .1) (f .4) w)
+    rises-at (node t b) (node (acted t (Session a b ca cb o)) b) (ended (finishesB o) z y) (session-b t a b ca cb o m)
+    (rises-trans (node t b) z (ended (finishesB o) z y) (rises-opened (count t) b cb (node t) x (m .hereB) (m .clockB) w)
     (rises-ended (count t) (finishesB o) z y (fb .summaryLong ∙ sym (fa .summaryLong)) (fb .acksLong ∙ sym (fa .acksLong)))))
     (λ q h nb na.
-    rises-at (node t q) (node (acted t (Session a b ca cb o)) q) (node t q) (session-other t s a b ca cb o (f .0) (f .1) (f .2) (k .room) q h na nb)
-    (rises-refl (node t q)))
+    rises-at (node t q) (node (acted t (Session a b ca cb o)) q) (node t q) (session-other t a b ca cb o m q h na nb) (rises-refl (node t q)))
     i j ne)
 rises-acted t (Purge p) x k w =
-    let f = purge-facts t p k in
-    let s = k .isSound in
-    let fits = purged-shaped (count t) (node t p) (node-shaped t s p f) (limit t p) in
+    let m = may-purge t p k in
+    let s = m .isSound in
+    let y = purged (limit t p) (node t p) in
+    let fits = purge-shaped t p m in
     each (λ (q : ℕ). Rises (node t q) (node (acted t (Purge p)) q)) (count t) p
-    (rises-at (node t p) (node (acted t (Purge p)) p) (purged (limit t p) (node t p)) (one-same t s p f (purged (limit t p) (node t p)) fits) (rises-purged (limit t p) (node t p)))
-    (λ q h ne. rises-at (node t q) (node (acted t (Purge p)) q) (node t q) (one-other t s p f (purged (limit t p) (node t p)) fits q h ne) (rises-refl (node t q)))
+    (rises-at (node t p) (node (acted t (Purge p)) p) y (node-same t s p (m .here) y fits) (rises-purged (limit t p) (node t p)))
+    (λ q h ne. rises-at (node t q) (node (acted t (Purge p)) q) (node t q) (node-other t s p (m .here) y fits q h ne) (rises-refl (node t q)))
 
 rises-stepped-at : (n : ℕ) (x : Run) (s : Step) (k : ℕ) → refusal (x .table) (s .action) ≡ k → Sure n x → (q : ℕ) → q < n →
     Rises (node (x .table) q) (node (stepped x s .table) q)
 rises-stepped-at n x s zero h u q j =
     rw (stepped-accepted x s h)
-    (rises-acted (x .table) (s .action) (x .account) (accepted (x .table) (s .action) h)
+    (rises-acted (x .table) (s .action) (x .account) h
     (subst (λ (m : ℕ). Whole m (node (x .table)) (x .account)) (sym (u .counted)) (u .whole)) q (rw (u .counted) j))
 rises-stepped-at n x s (suc k) h u q j = rw (stepped-refused x s k h) (rises-refl (node (x .table) q))
 
+rises-befell : (n : ℕ) (x : Run) (e : Event) → Sure n x → (q : ℕ) → q < n → Rises (node (x .table) q) (node (befell x e .table) q)
+unfolding befell
+rises-befell n x (AStep s) u q j = rises-stepped-at n x s (refusal (x .table) (s .action)) refl u q j
+
 -- however a run goes on
-pub never-down : (n : ℕ) (x : Run) → Sure n x → (ss : List Step) (q : ℕ) → q < n → Rises (node (x .table) q) (node (ran x ss .table) q)
+pub never-down : (n : ℕ) (x : Run) → Sure n x → (es : List Event) (q : ℕ) → q < n → Rises (node (x .table) q) (node (ran x es .table) q)
 unfolding ran
 never-down n x u [] q j = rises-refl (node (x .table) q)
-never-down n x u (s ∷ ss) q j =
-    rises-trans (node (x .table) q) (node (stepped x s .table) q) (node (ran (stepped x s) ss .table) q)
-    (rises-stepped-at n x s (refusal (x .table) (s .action)) refl u q j)
-    (never-down n (stepped x s) (sure-stepped n x s u) ss q j)
+never-down n x u (e ∷ es) q j =
+    rises-trans (node (x .table) q) (node (befell x e .table) q) (node (ran (befell x e) es .table) q)
+    (rises-befell n x e u q j)
+    (never-down n (befell x e) (sure-befell n x e u) es q j)
 
-pub run-never-down : (n : ℕ) → 2 ≤ n → n ≤ nodesMost → (ss ts : List Step) (q : ℕ) → q < n → Rises (node (run n ss .table) q) (node (run n (ss ++ ts) .table) q)
-run-never-down n lo hi ss ts q j = rw (run-append n ss ts) (never-down n (run n ss) (sure-run n lo hi ss) ts q j)
+pub run-never-down :
+    (n : ℕ) → 2 ≤ n → n ≤ nodesMost → (es fs : List Event) (q : ℕ) → q < n → Rises (node (run n es .table) q) (node (run n (es ++ fs) .table) q)
+run-never-down n lo hi es fs q j = rw (run-append n es fs) (never-down n (run n es) (sure-run n lo hi es) fs q j)

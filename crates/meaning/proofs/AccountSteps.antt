@@ -155,7 +155,8 @@ module _ (n : ℕ) (nodes nodes′ : ℕ → Node) (x : Account) (p c b v : ℕ)
             (gains-here p (new ∷ []) (x .of))
             (record {
               kept =
-                  kept-writing n (world nodes x) (world nodes′ next) new (wrote p c b v (nodes p) .summary) (nodes p .log) (wrote p c b v (nodes p) .log) (x .of p)
+                  kept-writing n (world nodes x) (world nodes′ next) new (wrote p c b v (nodes p) .summary) (nodes p .log)
+                  (wrote p c b v (nodes p) .log) (x .of p)
                   write-grows (k .stamped) own-below (omega (arith, top)) gained wrote-node (k .holds p below .kept);
               acked = acked-grows n (world nodes x) (world nodes′ next) write-grows (nodes p .acks) (k .holds p below .acked);
             }))
@@ -170,7 +171,10 @@ module _ (n : ℕ) (nodes nodes′ : ℕ → Node) (x : Account) (p limit : ℕ)
     (here : nodes′ p ≡ purged limit (nodes p)) (there : (q : ℕ) → q < n → (q ≡ p → ⊥) → nodes′ q ≡ nodes q) (k : Whole n nodes x) where
   same-summary : (q : ℕ) → q < n → nodes′ q .summary ≡ nodes q .summary
   unfolding purged
-  same-summary = each (λ (q : ℕ). nodes′ q .summary ≡ nodes q .summary) n p (ap (λ (y : Node). y .summary) here) (λ q h ne. ap (λ (y : Node). y .summary) (there q h ne))
+  same-summary =
+      each (λ (q : ℕ). nodes′ q .summary ≡ nodes q .summary) n p
+      (ap (λ (y : Node). y .summary) here)
+      (λ q h ne. ap (λ (y : Node). y .summary) (there q h ne))
 
   purge-grows : Grows n (world nodes x) (world nodes′ x)
   purge-grows =
@@ -235,7 +239,8 @@ taken-b false false a b of ne = refl
 
 pub taken-other : (f g : Bool) (a b : ℕ) (of : ℕ → List Record) (q : ℕ) → (q ≡ a → ⊥) → (q ≡ b → ⊥) →
     gainsIf g b (lacking (of b) (of a)) (gainsIf f a (lacking (of a) (of b)) of) q ≡ of q
-taken-other true true a b of q na nb = gains-other b (lacking (of b) (of a)) (gains a (lacking (of a) (of b)) of) q nb ∙ gains-other a (lacking (of a) (of b)) of q na
+taken-other true true a b of q na nb =
+    gains-other b (lacking (of b) (of a)) (gains a (lacking (of a) (of b)) of) q nb ∙ gains-other a (lacking (of a) (of b)) of q na
 taken-other true false a b of q na nb = gains-other a (lacking (of a) (of b)) of q na
 taken-other false true a b of q na nb = gains-other b (lacking (of b) (of a)) of q nb
 taken-other false false a b of q na nb = refl

@@ -12,24 +12,20 @@ use Rattle.meaning.specs.declared.Step.{Step}
 use Rattle.meaning.specs.Table.{nodesMost, summaryAt, acksAt, count, node, fresh}
 use Rattle.meaning.specs.Node.{wrote, purged}
 use Rattle.meaning.specs.Steps.{limit, refusal, acted}
-use Rattle.meaning.specs.Account.{has, Account, nothing, noted, Run, noteIf, stepped, ran, run}
+use Rattle.meaning.specs.Account.{has, Account, nothing, noted, Run, noteIf, stepped, Event, AStep, befell, ran, run}
 use Rattle.meaning.proofs.PlaceLaws.{getD-part}
-use Rattle.meaning.proofs.TableLaws.{node-shaped}
+use Rattle.meaning.proofs.TableLaws.{node-shaped, node-same, node-other}
 use Rattle.meaning.proofs.StepLaws.{
-  Accepted,
-  accepted,
   after-accepted,
   after-refused,
-  wrote-shaped,
-  purged-shaped,
+  may-write,
+  may-meet,
+  may-purge,
+  write-shaped,
+  purge-shaped,
   session-a,
   session-b,
   session-other,
-  one-same,
-  one-other,
-  write-facts,
-  purge-facts,
-  session-facts,
   acted-count,
   fresh-count,
   fresh-word,
@@ -69,7 +65,12 @@ sure-fresh n lo hi =
       whole =
           record {
             once = Pairwise·nil;
-            stamped = record { origin = λ r h. not-both (has r []) h (none r); reached = λ r h. not-both (has r []) h (none r); single = λ r s h. not-both (has r []) h (none r) };
+            stamped =
+                record {
+                  origin = λ r h. not-both (has r []) h (none r);
+                  reached = λ r h. not-both (has r []) h (none r);
+                  single = λ r s h. not-both (has r []) h (none r);
+                };
             holds = λ q h.
                 let f = node-shaped (fresh n) s q (omega arith) in
                 record {
@@ -94,29 +95,27 @@ pub limit-low : (t : List ℕ) (p n : ℕ) → length (node t p .acks) ≡ n →
 unfolding limit
 limit-low t p n wide q h = omega (arith, least-le (node t p .acks) q (omega arith))
 
-whole-acted : (t : List ℕ) (a : Action) (x : Account) → Accepted t a → Whole (count t) (node t) x → Whole (count t) (node (acted t a)) (noted a x)
+whole-acted : (t : List ℕ) (a : Action) (x : Account) → refusal t a ≡ 0 → Whole (count t) (node t) x → Whole (count t) (node (acted t a)) (noted a x)
 unfolding acted
 whole-acted t (Write p c b v) x k w =
-    let f = write-facts t p c b v k in
-    let s = k .isSound in
-    let fits = wrote-shaped (count t) (node t p) (node-shaped t s p (f .0)) p c b v (f .2) in
-    whole-write (count t) (node t) (node (acted t (Write p c b v))) x p c b v (f .0) (f .1)
-    (one-same t s p (f .0) (wrote p c b v (node t p)) fits)
-    (one-other t s p (f .0) (wrote p c b v (node t p)) fits) w
+    let m = may-write t p c b v k in
+    let fits = write-shaped t p c b v m in
+    whole-write (count t) (node t) (node (acted t (Write p c b v))) x p c b v (m .here) (m .later)
+    (node-same t (m .isSound) p (m .here) (wrote p c b v (node t p)) fits)
+    (node-other t (m .isSound) p (m .here) (wrote p c b v (node t p)) fits) w
 whole-acted t (Session a b ca cb o) x k w =
-    let f = session-facts t a b ca cb o k in
-    let s = k .isSound in
-    whole-session (count t) (node t) (node (acted t (Session a b ca cb o))) x a b ca cb o (f .0) (f .1) (f .2) (f .3) (f .4)
-    (session-a t s a b ca cb o (f .0) (f .1) (f .2) (k .room))
-    (session-b t s a b ca cb o (f .0) (f .1) (f .2) (k .room))
-    (session-other t s a b ca cb o (f .0) (f .1) (f .2) (k .room)) w
+    let m = may-meet t a b ca cb o k in
+    whole-session (count t) (node t) (node (acted t (Session a b ca cb o))) x a b ca cb o (m .hereA) (m .hereB) (m .apart) (m .clockA) (m .clockB)
+    (session-a t a b ca cb o m)
+    (session-b t a b ca cb o m)
+    (session-other t a b ca cb o m) w
 whole-acted t (Purge p) x k w =
-    let f = purge-facts t p k in
-    let s = k .isSound in
-    let fits = purged-shaped (count t) (node t p) (node-shaped t s p f) (limit t p) in
-    whole-purge (count t) (node t) (node (acted t (Purge p))) x p (limit t p) f (limit-low t p (count t) (node-shaped t s p f .acksLong))
-    (one-same t s p f (purged (limit t p) (node t p)) fits)
-    (one-other t s p f (purged (limit t p) (node t p)) fits) w
+    let m = may-purge t p k in
+    let s = m .isSound in
+    let fits = purge-shaped t p m in
+    whole-purge (count t) (node t) (node (acted t (Purge p))) x p (limit t p) (m .here) (limit-low t p (count t) (node-shaped t s p (m .here) .acksLong))
+    (node-same t s p (m .here) (purged (limit t p) (node t p)) fits)
+    (node-other t s p (m .here) (purged (limit t p) (node t p)) fits) w
 
 -- what a step leaves of a run, accepted or refused
 pub stepped-accepted : (x : Run) (s : Step) → refusal (x .table) (s .action) ≡ 0 →
@@ -132,7 +131,8 @@ stepped-refused x s k h =
     let e = after-refused (x .table) (s .action) k h in
     λ i. record { table = e i; account = noteIf (h i) (s .action) (x .account) }
 
-sure-acted : (n : ℕ) (x : Run) (a : Action) → Accepted (x .table) a → Sure n x → Sure n (record { table = acted (x .table) a; account = noted a (x .account) })
+sure-acted :
+    (n : ℕ) (x : Run) (a : Action) → refusal (x .table) a ≡ 0 → Sure n x → Sure n (record { table = acted (x .table) a; account = noted a (x .account) })
 sure-acted n x a k u =
     record {
       counted = acted-count (x .table) a k ∙ u .counted;
@@ -142,19 +142,23 @@ sure-acted n x a k u =
     }
 
 sure-stepped-at : (n : ℕ) (x : Run) (s : Step) (k : ℕ) → refusal (x .table) (s .action) ≡ k → Sure n x → Sure n (stepped x s)
-sure-stepped-at n x s zero h u = rw (stepped-accepted x s h) (sure-acted n x (s .action) (accepted (x .table) (s .action) h) u)
+sure-stepped-at n x s zero h u = rw (stepped-accepted x s h) (sure-acted n x (s .action) h u)
 sure-stepped-at n x s (suc k) h u = rw (stepped-refused x s k h) u
 
 pub sure-stepped : (n : ℕ) (x : Run) (s : Step) → Sure n x → Sure n (stepped x s)
 sure-stepped n x s u = sure-stepped-at n x s (refusal (x .table) (s .action)) refl u
 
--- A list of steps ----------------------------------------------------------------------------------------------------------------------------
+-- A list of events ---------------------------------------------------------------------------------------------------------------------------
 
-pub sure-ran : (n : ℕ) (x : Run) (ss : List Step) → Sure n x → Sure n (ran x ss)
+pub sure-befell : (n : ℕ) (x : Run) (e : Event) → Sure n x → Sure n (befell x e)
+unfolding befell
+sure-befell n x (AStep s) u = sure-stepped n x s u
+
+pub sure-ran : (n : ℕ) (x : Run) (es : List Event) → Sure n x → Sure n (ran x es)
 unfolding ran
 sure-ran n x [] u = u
-sure-ran n x (s ∷ ss) u = sure-ran n (stepped x s) ss (sure-stepped n x s u)
+sure-ran n x (e ∷ es) u = sure-ran n (befell x e) es (sure-befell n x e u)
 
-pub sure-run : (n : ℕ) → 2 ≤ n → n ≤ nodesMost → (ss : List Step) → Sure n (run n ss)
+pub sure-run : (n : ℕ) → 2 ≤ n → n ≤ nodesMost → (es : List Event) → Sure n (run n es)
 unfolding run
-sure-run n lo hi ss = sure-ran n (record { table = fresh n; account = nothing }) ss (sure-fresh n lo hi)
+sure-run n lo hi es = sure-ran n (record { table = fresh n; account = nothing }) es (sure-fresh n lo hi)

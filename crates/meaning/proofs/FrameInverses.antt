@@ -11,7 +11,22 @@ use lib.Seq.{take-suc, take-all, take-at, drop-at, take-add, length-take-le}
 use lib.Dec.{ltb}
 use borrow.Author.Tests.{ltb-true, lt-ltb, le-ltb}
 use Rattle.meaning.specs.Frames.{digit, digitValue, spelled, bytesOf, allDigits, total, check, summed, highFirst, number, packed, unpacked, sealed, fit}
-use Rattle.meaning.proofs.FrameLaws.{digit-decimal, digit-letter, digit-none, digits-cons, Bytes, bytes-take, bytes-drop, bytes-append, bytes-highFirst, total-append, total-below, number-snoc, number-below, length-highFirst}
+use Rattle.meaning.proofs.FrameLaws.{
+  digit-decimal,
+  digit-letter,
+  digit-none,
+  digits-cons,
+  Bytes,
+  bytes-take,
+  bytes-drop,
+  bytes-append,
+  bytes-highFirst,
+  total-append,
+  total-below,
+  number-snoc,
+  number-below,
+  length-highFirst,
+}
 use Rattle.meaning.proofs.RowLaws.{and-left, and-right}
 
 -- a digit and its number

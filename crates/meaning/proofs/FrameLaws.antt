@@ -1,6 +1,6 @@
 -- Laws of a line's digits, bytes, sum and numbers, for whoever reads or writes frames.
 use mathlib.Core.Path.{_≡_, refl, sym, _∙_, ap}
-use mathlib.Core.Bool.{Bool, true, false, not, _&&_, cond}
+use mathlib.Core.Bool.{Bool, true, false, not, _&&_, _||_, cond, true≢false}
 use mathlib.Core.List.{List, [], _∷_, _++_}
 use Prim.Native.Nat.{ℕ, zero, suc, _+_, _-_, _*_, _/_, _%_, _^_, _≤_, _<_}
 use native.Mathlib.Omega.{arith}
@@ -8,16 +8,59 @@ use native.Mathlib.Numerals.{add-one}
 use native.Mathlib.Nat.{pow-suc, mul-assoc, mul-le-mul-right}
 use lib.ListN.{length, getD, take, drop, length-append}
 use lib.Dec.{leb, ltb, eqb}
-use borrow.Author.Tests.{ltb-true, lt-ltb, le-ltb, le-leb, lt-leb, leb-true, leb-false, eqb-true, eq-eqb, ne-eqb}
+use borrow.Author.Tests.{ltb-true, lt-ltb, le-ltb, le-leb, lt-leb, leb-true, eqb-true, eq-eqb, ne-eqb, not-true, not-false}
 use Rattle.meaning.specs.declared.Line.the-variants.{Begin, Act, Refused}
 use Rattle.meaning.specs.declared.Action.{Action}
 use Rattle.meaning.specs.declared.Action.the-variants.{Write, Session, Purge}
 use Rattle.meaning.specs.declared.Framed.the-variants.{Length, Refused as Unframed}
-use Rattle.meaning.specs.Rows.{given}
+use Rattle.meaning.specs.Refusals.{Test, test, first}
 use Rattle.meaning.specs.Table.{countRight, place}
 use Rattle.meaning.specs.Steps.{outcomeAbove}
-use Rattle.meaning.specs.Frames.{digitValue, bytesOf, allDigits, total, number, digitsOf, actionOf, lineKind, lineFields, lineRefusal, readLine, spelled, highFirst, packed, sealed, widths, frameOf, frame, startFrame, writerRefusal, starterRefusal, frameReply, frameAfter, startReply, startAfter, lineValues, lineIs, meant, framedValues, framed}
+use Rattle.meaning.specs.Frames.{
+  digitValue,
+  bytesOf,
+  allDigits,
+  total,
+  number,
+  Kind,
+  journalKinds,
+  knownIn,
+  known,
+  widthsIn,
+  digitsIn,
+  digitsOf,
+  actionOf,
+  lineKind,
+  lineFields,
+  outcomeHigh,
+  startWrong,
+  fieldTests,
+  lineTests,
+  lineRefusal,
+  readLine,
+  spelled,
+  highFirst,
+  packed,
+  sealed,
+  frameIn,
+  frame,
+  startFrame,
+  writerTests,
+  writerRefusal,
+  starterTests,
+  starterRefusal,
+  frameReply,
+  frameAfter,
+  startReply,
+  startAfter,
+  lineValues,
+  lineIs,
+  meant,
+  framedValues,
+  framed,
+}
 use Rattle.meaning.proofs.RowLaws.{and-left, and-right}
+use Rattle.meaning.proofs.RefusalLaws.{none, numbered, first-given, first-passed, none-first}
 
 -- a digit's number, and 16 for any other character
 pub digit-decimal : (c : ℕ) → 48 ≤ c → c ≤ 57 → digitValue c ≡ c - 48
@@ -138,56 +181,120 @@ number-below (x ∷ bs) p =
     rw pow-suc (omega (arith, number-below bs (p .1), mul-le-mul-right (256 ^ length bs) low))
 
 -- a kind's digits are some, and even in number
-pub digitsOf-even : (kind : ℕ) → (digitsOf kind % 2 ≡ 0) × (0 < digitsOf kind)
-unfolding digitsOf
-digitsOf-even kind = (omega arith, omega arith)
+pub digits-even : (ks : List Kind) (k : ℕ) → (digitsIn ks k % 2 ≡ 0) × (0 < digitsIn ks k)
+unfolding digitsIn
+digits-even ks k = (omega arith, omega arith)
+
+-- a journal's kinds, one by one
+pub kind-cases : (P : ℕ → Type 0) → P 0 → P 1 → P 2 → P 3 → (k : ℕ) → known k ≡ true → P k
+unfolding knownIn journalKinds
+kind-cases P a b c d zero h = a
+kind-cases P a b c d (suc zero) h = b
+kind-cases P a b c d (suc (suc zero)) h = c
+kind-cases P a b c d (suc (suc (suc zero))) h = d
+kind-cases P a b c d (suc (suc (suc (suc k)))) h =
+    let n = suc (suc (suc (suc k))) in
+    let f : true ≡ false = cc (h, ne-eqb n 0 (omega arith), ne-eqb n 1 (omega arith), ne-eqb n 2 (omega arith), ne-eqb n 3 (omega arith)) in
+    absurd (true≢false f)
 
 -- the refusals of a line in their order
 module _ (l : List ℕ) where
   pub refused-stray : allDigits l ≡ false → lineRefusal l ≡ 12
-  unfolding lineRefusal
+  unfolding lineRefusal lineTests first
   refused-stray p = cc
 
-  pub refused-empty : allDigits l ≡ true → length l < 2 → lineRefusal l ≡ 11
-  unfolding lineRefusal
-  refused-empty p h = go (length l) refl h
-    where
-      go : (n : ℕ) → length l ≡ n → n < 2 → lineRefusal l ≡ 11
-      go zero e q = cc
-      go (suc zero) e q = cc
-      go (suc (suc n)) e q = absurd (omega arith)
+  module _ (d : allDigits l ≡ true) where
+    pub refused-odd : length l % 2 ≡ 1 → lineRefusal l ≡ 11
+    unfolding lineRefusal lineTests first
+    refused-odd p = cc (eq-eqb (length l % 2) 1 p)
 
-  -- what is left to ask of a line of digits that has its kind's length
-  pub refusal-whole : allDigits l ≡ true → lineKind (bytesOf l) < 4 → length l ≡ digitsOf (lineKind (bytesOf l))
-      → lineRefusal l
-      ≡ given (eqb (lineKind (bytesOf l)) 2 && ltb 3 (getD (lineFields (bytesOf l)) 4 0)) 11
-      (given (not (eqb (total (bytesOf l)) 0)) 13 (given (eqb (lineKind (bytesOf l)) 0 && not (countRight (getD (lineFields (bytesOf l)) 0 0))) 15 0))
-  unfolding lineRefusal
-  refusal-whole d known long =
-      let even = digitsOf-even (lineKind (bytesOf l)) in
-      let even′ : (length l % 2 ≡ 1 → ⊥) = rw long (omega arith) in
-      let some : (length l ≡ 0 → ⊥) = omega arith in
-      cc (
-        lt-leb 4 (lineKind (bytesOf l)) known,
-        ne-eqb (length l % 2) 1 even′,
-        ne-eqb (length l) 0 some,
-        eq-eqb (length l) (digitsOf (lineKind (bytesOf l))) long,
-      )
+    pub refused-none : length l ≡ 0 → lineRefusal l ≡ 11
+    unfolding lineRefusal lineTests first
+    refused-none p = cc
 
-  pub refused-length : allDigits l ≡ true → 2 ≤ length l → (lineKind (bytesOf l) < 4 → length l ≡ digitsOf (lineKind (bytesOf l)) → ⊥) → lineRefusal l ≡ 11
-  unfolding lineRefusal
-  refused-length d h p = go (eqb (length l % 2) 1) (leb 4 (lineKind (bytesOf l))) (eqb (length l) (digitsOf (lineKind (bytesOf l)))) refl refl refl
-    where
-      some : eqb (length l) 0 ≡ false
-      some = ne-eqb (length l) 0 (omega arith)
+    module _ (even : length l % 2 ≡ 0) (some : 0 < length l) where
+      pub refused-unknown : known (lineKind (bytesOf l)) ≡ false → lineRefusal l ≡ 11
+      unfolding lineRefusal lineTests first
+      refused-unknown p = cc (ne-eqb (length l % 2) 1 (omega arith), ne-eqb (length l) 0 (omega arith))
 
-      go : (odd unknown long : Bool) → eqb (length l % 2) 1 ≡ odd → leb 4 (lineKind (bytesOf l)) ≡ unknown
-          → eqb (length l) (digitsOf (lineKind (bytesOf l))) ≡ long → lineRefusal l ≡ 11
-      go true unknown long x y z = cc
-      go false true long x y z = cc some
-      go false false false x y z = cc some
-      go false false true x y z =
-          absurd (p (leb-false 4 (lineKind (bytesOf l)) y) (eqb-true (length l) (digitsOf (lineKind (bytesOf l))) z))
+      pub refused-length : known (lineKind (bytesOf l)) ≡ true → (length l ≡ digitsOf (lineKind (bytesOf l)) → ⊥) → lineRefusal l ≡ 11
+      unfolding lineRefusal lineTests first
+      refused-length p h =
+          cc (ne-eqb (length l % 2) 1 (omega arith), ne-eqb (length l) 0 (omega arith), ne-eqb (length l) (digitsOf (lineKind (bytesOf l))) h)
+
+    -- what is left to ask of a line of digits that has its kind's length
+    pub refusal-whole : known (lineKind (bytesOf l)) ≡ true → length l ≡ digitsOf (lineKind (bytesOf l)) → lineRefusal l ≡ first (fieldTests (bytesOf l))
+    unfolding lineRefusal lineTests first
+    refusal-whole p long =
+        let even = digits-even journalKinds (lineKind (bytesOf l)) in
+        let even′ : (length l % 2 ≡ 1 → ⊥) = rw long (omega arith) in
+        cc (ne-eqb (length l % 2) 1 even′, ne-eqb (length l) 0 (omega arith), eq-eqb (length l) (digitsOf (lineKind (bytesOf l))) long)
+
+-- a journal's line that is whole: the outcome, the sum, a start's n
+module _ (bs : List ℕ) where
+  pub given-outcome : outcomeHigh bs ≡ true → first (fieldTests bs) ≡ 11
+  unfolding fieldTests
+  given-outcome p = first-given 11 (outcomeHigh bs) _ p
+
+  module _ (p : outcomeHigh bs ≡ false) where
+    after-outcome : first (fieldTests bs) ≡ first (test 13 (not (eqb (total bs) 0)) ∷ test 15 (startWrong bs) ∷ [])
+    unfolding fieldTests
+    after-outcome = first-passed 11 (outcomeHigh bs) (test 13 (not (eqb (total bs) 0)) ∷ test 15 (startWrong bs) ∷ []) p
+
+    pub given-sum : (total bs ≡ 0 → ⊥) → first (fieldTests bs) ≡ 13
+    given-sum h = after-outcome ∙ first-given 13 (not (eqb (total bs) 0)) _ (ap not (ne-eqb (total bs) 0 h))
+
+    module _ (z : total bs ≡ 0) where
+      after-sum : first (fieldTests bs) ≡ first (test 15 (startWrong bs) ∷ [])
+      after-sum = after-outcome ∙ first-passed 13 (not (eqb (total bs) 0)) _ (ap not (eq-eqb (total bs) 0 z))
+
+      pub given-start : startWrong bs ≡ true → first (fieldTests bs) ≡ 15
+      given-start h = after-sum ∙ first-given 15 (startWrong bs) _ h
+
+      pub given-none : startWrong bs ≡ false → first (fieldTests bs) ≡ 0
+      unfolding first
+      given-none h = after-sum ∙ first-passed 15 (startWrong bs) [] h
+
+-- A line is not refused exactly where all this holds of it
+pub record Good (l : List ℕ) : Type 0 where
+  pub digits : allDigits l ≡ true
+  pub has-kind : known (lineKind (bytesOf l)) ≡ true
+  pub long : length l ≡ digitsOf (lineKind (bytesOf l))
+  pub outcome : outcomeHigh (bytesOf l) ≡ false
+  pub sum : total (bytesOf l) ≡ 0
+  pub start : startWrong (bytesOf l) ≡ false
+
+pub clear : (l : List ℕ) → Good l → lineRefusal l ≡ 0
+clear l g = refusal-whole l (g .digits) (g .has-kind) (g .long) ∙ given-none (bytesOf l) (g .outcome) (g .sum) (g .start)
+
+passed : (k : ℕ) (b : Bool) (xs : List Test) → none (test k b ∷ xs) ≡ true → (b ≡ false) × (none xs ≡ true)
+unfolding none
+passed k b xs h = (not-true b (and-left (not b) (none xs) h), and-right (not b) (none xs) h)
+
+pub good : (l : List ℕ) → lineRefusal l ≡ 0 → Good l
+unfolding lineRefusal lineTests fieldTests numbered
+good l p =
+    let bs = bytesOf l in
+    let r₆ = test 15 (startWrong bs) ∷ [] in
+    let r₅ = test 13 (not (eqb (total bs) 0)) ∷ r₆ in
+    let r₄ = test 11 (outcomeHigh bs) ∷ r₅ in
+    let r₃ = test 11 (not (eqb (length l) (digitsOf (lineKind bs)))) ∷ r₄ in
+    let r₂ = test 11 (not (known (lineKind bs))) ∷ r₃ in
+    let r₁ = test 11 (eqb (length l % 2) 1 || eqb (length l) 0) ∷ r₂ in
+    let g₀ = passed 12 (not (allDigits l)) r₁ (none-first (lineTests l) refl p) in
+    let g₁ = passed 11 (eqb (length l % 2) 1 || eqb (length l) 0) r₂ (g₀ .1) in
+    let g₂ = passed 11 (not (known (lineKind bs))) r₃ (g₁ .1) in
+    let g₃ = passed 11 (not (eqb (length l) (digitsOf (lineKind bs)))) r₄ (g₂ .1) in
+    let g₄ = passed 11 (outcomeHigh bs) r₅ (g₃ .1) in
+    let g₅ = passed 13 (not (eqb (total bs) 0)) r₆ (g₄ .1) in
+    record {
+      digits = not-false (allDigits l) (g₀ .0);
+      has-kind = not-false (known (lineKind bs)) (g₂ .0);
+      long = eqb-true (length l) (digitsOf (lineKind bs)) (not-false (eqb (length l) (digitsOf (lineKind bs))) (g₃ .0));
+      outcome = g₄ .0;
+      sum = eqb-true (total bs) 0 (not-false (eqb (total bs) 0) (g₅ .0));
+      start = passed 15 (startWrong bs) [] (g₅ .1) .0;
+    }
 
 -- what a line says: its refusal, a start or a step
 pub read-refused : (line k : ℕ) (l : List ℕ) → lineRefusal l ≡ suc k → Refused (suc k) ≡ readLine line l
@@ -245,45 +352,64 @@ started-wrong out n k p = (rw p refl, rw p refl)
 
 -- the length of each frame, LF included
 pub length-write : (p t b v : ℕ) → length (frame (Write p t b v)) ≡ 25
-unfolding frame frameOf sealed widths packed highFirst spelled
+unfolding frame frameIn sealed widthsIn journalKinds packed highFirst spelled
 length-write p t b v = refl
 
 pub length-session : (a b ca cb o : ℕ) → length (frame (Session a b ca cb o)) ≡ 27
-unfolding frame frameOf sealed widths packed highFirst spelled
+unfolding frame frameIn sealed widthsIn journalKinds packed highFirst spelled
 length-session a b ca cb o = refl
 
 pub length-purge : (p : ℕ) → length (frame (Purge p)) ≡ 7
-unfolding frame frameOf sealed widths packed highFirst spelled
+unfolding frame frameIn sealed widthsIn journalKinds packed highFirst spelled
 length-purge p = refl
 
 pub length-start : (n : ℕ) → length (startFrame n) ≡ 7
-unfolding startFrame frameOf sealed widths packed highFirst spelled
+unfolding startFrame frameIn sealed widthsIn journalKinds packed highFirst spelled
 length-start n = refl
 
 -- the writers' refusals: "refuses with 2 as above, then with 17 if the lent bytes are too few"
-pub writer-outcome : (out : List ℕ) (x : Action) → outcomeAbove x ≡ true → writerRefusal out x ≡ 2
-unfolding writerRefusal
-writer-outcome out x p = cc
+module _ (out : List ℕ) (x : Action) where
+  pub writer-outcome : outcomeAbove x ≡ true → writerRefusal out x ≡ 2
+  unfolding writerRefusal writerTests
+  writer-outcome p = first-given 2 (outcomeAbove x) _ p
 
-pub writer-few : (out : List ℕ) (x : Action) → outcomeAbove x ≡ false → length out < length (frame x) → writerRefusal out x ≡ 17
-unfolding writerRefusal
-writer-few out x p h = cc (lt-ltb (length out) (length (frame x)) h)
+  module _ (p : outcomeAbove x ≡ false) where
+    writer-next : writerRefusal out x ≡ first (test 17 (ltb (length out) (length (frame x))) ∷ [])
+    unfolding writerRefusal writerTests
+    writer-next = first-passed 2 (outcomeAbove x) _ p
 
-pub writer-none : (out : List ℕ) (x : Action) → outcomeAbove x ≡ false → length (frame x) ≤ length out → writerRefusal out x ≡ 0
-unfolding writerRefusal
-writer-none out x p h = cc (le-ltb (length out) (length (frame x)) h)
+    pub writer-few : length out < length (frame x) → writerRefusal out x ≡ 17
+    writer-few h = writer-next ∙ first-given 17 (ltb (length out) (length (frame x))) [] (lt-ltb (length out) (length (frame x)) h)
 
-pub starter-count : (out : List ℕ) (n : ℕ) → countRight n ≡ false → starterRefusal out n ≡ 15
-unfolding starterRefusal
-starter-count out n p = rw (starterRefusal, p) refl
+    pub writer-none : length (frame x) ≤ length out → writerRefusal out x ≡ 0
+    unfolding first
+    writer-none h = writer-next ∙ first-passed 17 (ltb (length out) (length (frame x))) [] (le-ltb (length out) (length (frame x)) h)
 
-pub starter-few : (out : List ℕ) (n : ℕ) → countRight n ≡ true → length out < length (startFrame n) → starterRefusal out n ≡ 17
-unfolding starterRefusal
-starter-few out n p h = rw (starterRefusal, p, lt-ltb (length out) (length (startFrame n)) h) refl
+module _ (out : List ℕ) (n : ℕ) where
+  pub starter-count : countRight n ≡ false → starterRefusal out n ≡ 15
+  unfolding starterRefusal starterTests
+  starter-count p = first-given 15 (not (countRight n)) _ (ap not p)
 
-pub starter-none : (out : List ℕ) (n : ℕ) → countRight n ≡ true → length (startFrame n) ≤ length out → starterRefusal out n ≡ 0
-unfolding starterRefusal
-starter-none out n p h = rw (starterRefusal, p, le-ltb (length out) (length (startFrame n)) h) refl
+  module _ (p : countRight n ≡ true) where
+    starter-next : starterRefusal out n ≡ first (test 17 (ltb (length out) (length (startFrame n))) ∷ [])
+    unfolding starterRefusal starterTests
+    starter-next = first-passed 15 (not (countRight n)) _ (ap not p)
+
+    pub starter-few : length out < length (startFrame n) → starterRefusal out n ≡ 17
+    starter-few h = starter-next ∙ first-given 17 (ltb (length out) (length (startFrame n))) [] (lt-ltb (length out) (length (startFrame n)) h)
+
+    pub starter-none : length (startFrame n) ≤ length out → starterRefusal out n ≡ 0
+    unfolding first
+    starter-none h = starter-next ∙ first-passed 17 (ltb (length out) (length (startFrame n))) [] (le-ltb (length out) (length (startFrame n)) h)
+
+-- so a step that is written has an outcome within 3, and a start 2 to 16 nodes
+pub written-within : (out : List ℕ) (x : Action) → writerRefusal out x ≡ 0 → outcomeAbove x ≡ false
+unfolding writerRefusal writerTests numbered
+written-within out x p = passed 2 (outcomeAbove x) _ (none-first (writerTests out x) refl p) .0
+
+pub started-within : (out : List ℕ) (n : ℕ) → starterRefusal out n ≡ 0 → countRight n ≡ true
+unfolding starterRefusal starterTests numbered
+started-within out n p = not-false (countRight n) (passed 15 (not (countRight n)) _ (none-first (starterTests out n) refl p) .0)
 
 -- a count of 2 to 16
 pub count-right : (n : ℕ) → 2 ≤ n → n ≤ 16 → countRight n ≡ true

@@ -2,34 +2,104 @@
 -- The same for starts. Document 00, demand 2: "Every step but a session with some other outcome has one frame of hexadecimal,
 -- and reading that frame gives the step back."
 use mathlib.Core.Path.{_≡_, refl, sym, _∙_, ap}
-use mathlib.Core.Bool.{Bool, true, false, not, _&&_, _||_}
+use mathlib.Core.Bool.{Bool, true, false, not, _&&_}
 use mathlib.Core.List.{List, [], _∷_, _++_, append-assoc}
-use Prim.Native.Nat.{ℕ, zero, suc, _+_, _-_, _%_, _<_}
+use Prim.Native.Nat.{ℕ, zero, suc, _+_, _-_, _<_}
 use native.Mathlib.Omega.{arith}
 use lib.ListN.{length, getD, take, drop, length-append}
 use lib.Seq.{take-at}
 use lib.Dec.{leb, ltb, eqb}
-use borrow.Author.Tests.{leb-true, leb-false, lt-ltb, eqb-true, eqb-false, eq-eqb, ne-eqb, not-false}
+use borrow.Author.Tests.{leb-true, lt-ltb, eqb-true, eqb-false, ne-eqb, not-false}
 use Rattle.meaning.specs.declared.Action.{Action}
 use Rattle.meaning.specs.declared.Action.the-variants.{Write, Session, Purge}
 use Rattle.meaning.specs.declared.Step.{Step}
 use Rattle.meaning.specs.declared.Line.the-variants.{Begin, Act}
 use Rattle.meaning.specs.declared.Framed.the-variants.{Length}
-use Rattle.meaning.specs.Rows.{given}
 use Rattle.meaning.specs.Table.{countRight, place}
 use Rattle.meaning.specs.Steps.{outcomeAbove}
-use Rattle.meaning.specs.Frames.{spelled, bytesOf, allDigits, total, kinds, summed, widths, digitsOf, packed, unpacked, kindOf, fieldsOf, actionOf, sealed, frameOf, frame, startFrame, fit, wide, lineKind, lineFields, lineRefusal, readLine, writerRefusal, starterRefusal, frameReply, frameAfter, startReply, startAfter}
-use Rattle.meaning.proofs.FrameLaws.{Bytes, bytes-drop, bytes-of, length-bytesOf, length-spelled, refusal-whole, read-refused, read-begin, read-act, framed-right, framed-wrong, started-right, started-wrong}
-use Rattle.meaning.proofs.RowLaws.{given-none, and-right}
-use Rattle.meaning.proofs.FrameInverses.{bytesOf-spelled, digits-spelled, spelled-bytesOf, bytes-packed, length-packed, unpacked-packed, packed-unpacked, fit-unpacked, to-last, total-sealed, check-of, bytes-at, bytes-sealed, length-sealed}
+use Rattle.meaning.specs.Frames.{
+  spelled,
+  bytesOf,
+  allDigits,
+  total,
+  Kind,
+  journalKinds,
+  knownIn,
+  known,
+  widthsIn,
+  widths,
+  digitsIn,
+  digitsOf,
+  summed,
+  packed,
+  unpacked,
+  kindOf,
+  fieldsOf,
+  actionOf,
+  sealed,
+  frameIn,
+  frameOf,
+  frame,
+  startFrame,
+  fit,
+  wide,
+  lineKind,
+  fieldsIn,
+  lineFields,
+  lineRefusal,
+  readLine,
+  writerRefusal,
+  starterRefusal,
+  frameReply,
+  frameAfter,
+  startReply,
+  startAfter,
+}
+use Rattle.meaning.proofs.FrameLaws.{
+  Bytes,
+  bytes-drop,
+  bytes-of,
+  length-bytesOf,
+  length-spelled,
+  kind-cases,
+  Good,
+  clear,
+  good,
+  read-refused,
+  read-begin,
+  read-act,
+  framed-right,
+  framed-wrong,
+  started-right,
+  started-wrong,
+  written-within,
+  started-within,
+}
+use Rattle.meaning.proofs.RowLaws.{and-right}
+use Rattle.meaning.proofs.FrameInverses.{
+  bytesOf-spelled,
+  digits-spelled,
+  spelled-bytesOf,
+  bytes-packed,
+  length-packed,
+  unpacked-packed,
+  packed-unpacked,
+  fit-unpacked,
+  to-last,
+  total-sealed,
+  check-of,
+  bytes-at,
+  bytes-sealed,
+  length-sealed,
+}
 
--- a frame without its LF
-body : ℕ → List ℕ → List ℕ
-body kind vs = spelled (sealed (kind ∷ packed (widths kind) vs))
+-- a frame without its LF, whatever the kinds
+pub body : List Kind → ℕ → List ℕ → List ℕ
+body ks kind vs = spelled (sealed (kind ∷ packed (widthsIn ks kind) vs))
 
-frame-body : (kind : ℕ) (vs : List ℕ) → frameOf kind vs ≡ body kind vs ++ (10 ∷ [])
-unfolding frameOf body
-frame-body kind vs = refl
+frame-body : (ks : List Kind) (kind : ℕ) (vs : List ℕ) → frameIn ks kind vs ≡ body ks kind vs ++ (10 ∷ [])
+unfolding frameIn body
+frame-body ks kind vs = refl
 
 -- lists that end alike are alike before
 snoc-injective : (xs ys : List ℕ) (z : ℕ) → xs ++ (z ∷ []) ≡ ys ++ (z ∷ []) → xs ≡ ys
@@ -38,38 +108,41 @@ snoc-injective xs ys z e =
     sym (take-at xs (z ∷ []) (length xs) refl) ∙ ap (take (length xs)) e ∙ take-at ys (z ∷ []) (length xs) (sym long)
 
 -- There: what reading finds in the line that writing made
-record Back (l : List ℕ) (kind : ℕ) (vs : List ℕ) : Type 0 where
-  digits : allDigits l ≡ true
-  is : lineKind (bytesOf l) ≡ kind
-  fields : lineFields (bytesOf l) ≡ vs
-  long : length l ≡ digitsOf kind
-  sum : total (bytesOf l) ≡ 0
+pub record Back (ks : List Kind) (l : List ℕ) (kind : ℕ) (vs : List ℕ) : Type 0 where
+  pub digits : allDigits l ≡ true
+  pub is : lineKind (bytesOf l) ≡ kind
+  pub fields : fieldsIn ks (bytesOf l) ≡ vs
+  pub long : length l ≡ digitsIn ks kind
+  pub sum : total (bytesOf l) ≡ 0
 
-back : (kind : ℕ) (vs : List ℕ) → kind < 256 → length vs ≡ length (widths kind) → fit (widths kind) vs ≡ true → Back (body kind vs) kind vs
-unfolding body lineKind lineFields digitsOf sealed
-back kind vs k n p =
-    let bs = kind ∷ packed (widths kind) vs in
-    let all = bytes-sealed bs (k, bytes-packed (widths kind) vs) in
+pub back : (ks : List Kind) (kind : ℕ) (vs : List ℕ) → kind < 256 → length vs ≡ length (widthsIn ks kind) → fit (widthsIn ks kind) vs ≡ true
+    → Back ks (body ks kind vs) kind vs
+unfolding body lineKind fieldsIn digitsIn sealed
+back ks kind vs k n p =
+    let ws = widthsIn ks kind in
+    let bs = kind ∷ packed ws vs in
+    let all = bytes-sealed bs (k, bytes-packed ws vs) in
     let read : bytesOf (spelled (sealed bs)) ≡ sealed bs = bytesOf-spelled (sealed bs) all in
     record {
       digits = digits-spelled (sealed bs) all;
       is = rw read refl;
-      fields = rw read (unpacked-packed (widths kind) vs _ n p);
-      long = omega (arith, length-spelled (sealed bs), length-sealed bs, length-packed (widths kind) vs n);
+      fields = rw read (unpacked-packed ws vs _ n p);
+      long = omega (arith, length-spelled (sealed bs), length-sealed bs, length-packed ws vs n);
       sum = rw read (total-sealed bs);
     }
 
 -- a kind's number of fields, and an action's kind, fields and outcome
 fields-long : (x : Action) → length (fieldsOf x) ≡ length (widths (kindOf x))
-unfolding widths
+unfolding widthsIn journalKinds
 fields-long (Write p t b v) = refl
 fields-long (Session a b ca cb o) = refl
 fields-long (Purge p) = refl
 
-kind-known : (x : Action) → (0 < kindOf x) × (kindOf x < 4)
-kind-known (Write p t b v) = (omega arith, omega arith)
-kind-known (Session a b ca cb o) = (omega arith, omega arith)
-kind-known (Purge p) = (omega arith, omega arith)
+kind-known : (x : Action) → (0 < kindOf x) × (kindOf x < 256) × (known (kindOf x) ≡ true)
+unfolding knownIn journalKinds
+kind-known (Write p t b v) = (omega arith, omega arith, refl)
+kind-known (Session a b ca cb o) = (omega arith, omega arith, refl)
+kind-known (Purge p) = (omega arith, omega arith, refl)
 
 action-back : (x : Action) → actionOf (kindOf x) (fieldsOf x) ≡ x
 unfolding actionOf
@@ -83,89 +156,60 @@ outcome-back (Write p t b v) = refl
 outcome-back (Session a b ca cb o) = refl
 outcome-back (Purge p) = refl
 
-action-body : (x : Action) → wide x ≡ true → Back (body (kindOf x) (fieldsOf x)) (kindOf x) (fieldsOf x)
-unfolding wide
-action-body x p = back (kindOf x) (fieldsOf x) (omega (arith, kind-known x .1)) (fields-long x) p
+step-body : Action → List ℕ
+step-body x = body journalKinds (kindOf x) (fieldsOf x)
 
-read-body : (x : Action) (line : ℕ) → wide x ≡ true → outcomeAbove x ≡ false →
-    readLine line (body (kindOf x) (fieldsOf x)) ≡ Act (record { line = line; action = x })
+action-body : (x : Action) → wide x ≡ true → Back journalKinds (step-body x) (kindOf x) (fieldsOf x)
+unfolding wide step-body
+action-body x p = back journalKinds (kindOf x) (fieldsOf x) (kind-known x .1) (fields-long x) p
+
+read-body : (x : Action) (line : ℕ) → wide x ≡ true → outcomeAbove x ≡ false → readLine line (step-body x) ≡ Act (record { line = line; action = x })
 read-body x line p q =
-    let l = body (kindOf x) (fieldsOf x) in
+    let l = step-body x in
     let b = action-body x p in
     let k = kind-known x in
     let some : (kindOf x ≡ 0 → ⊥) = omega arith in
-    let whole = refusal-whole l (b .digits) (omega (arith, b .is)) (b .long ∙ ap digitsOf (sym (b .is))) in
-    let none : lineRefusal l ≡ 0 = cc (whole, b .is, b .fields, eq-eqb (total (bytesOf l)) 0 (b .sum), ne-eqb (kindOf x) 0 some, outcome-back x) in
-    let read = read-act line l none (rw (b .is) some) in
+    let right : Good l = record {
+      digits = b .digits;
+      has-kind = rw (b .is) (k .2);
+      long = b .long ∙ ap digitsOf (sym (b .is));
+      outcome = cc (b .is, b .fields, outcome-back x);
+      sum = b .sum;
+      start = cc (b .is, ne-eqb (kindOf x) 0 some);
+    } in
+    let read = read-act line l (clear l right) (rw (b .is) some) in
     sym (rw (b .is, b .fields, action-back x) at read)
 
 -- Every frame ends in LF.
+frame-step : (x : Action) → frame x ≡ step-body x ++ (10 ∷ [])
+unfolding frame step-body
+frame-step x = frame-body journalKinds (kindOf x) (fieldsOf x)
+
 pub frame-ends : (x : Action) → (l : List ℕ) × (frame x ≡ l ++ (10 ∷ []))
-unfolding frame
-frame-ends x = (body (kindOf x) (fieldsOf x), frame-body (kindOf x) (fieldsOf x))
+frame-ends x = (step-body x, frame-step x)
 
 -- Reading the frame of a step, without its LF, gives the step back, with the line number that the reader is told.
 pub frame-reads : (x : Action) (line : ℕ) (l : List ℕ) → wide x ≡ true → outcomeAbove x ≡ false → frame x ≡ l ++ (10 ∷ [])
     → readLine line l ≡ Act (record { line = line; action = x })
-unfolding frame
 frame-reads x line l p q e =
-    let same : body (kindOf x) (fieldsOf x) ≡ l = snoc-injective (body (kindOf x) (fieldsOf x)) l 10 (sym (frame-body (kindOf x) (fieldsOf x)) ∙ e) in
+    let same : step-body x ≡ l = snoc-injective (step-body x) l 10 (sym (frame-step x) ∙ e) in
     rw (← same) (read-body x line p q)
 
 -- Two actions with the same frame are the same, their fields being as wide as in the frame.
 pub frame-injective : (x y : Action) → wide x ≡ true → wide y ≡ true → frame x ≡ frame y → x ≡ y
-unfolding frame
 frame-injective x y p q e =
-    let same : body (kindOf x) (fieldsOf x) ≡ body (kindOf y) (fieldsOf y)
-    = snoc-injective (body (kindOf x) (fieldsOf x)) (body (kindOf y) (fieldsOf y)) 10 (sym (frame-body (kindOf x) (fieldsOf x)) ∙ e ∙ frame-body (kindOf y) (fieldsOf y)) in
+    let same : step-body x ≡ step-body y = snoc-injective (step-body x) (step-body y) 10 (sym (frame-step x) ∙ e ∙ frame-step y) in
     let b = action-body x p in
     let d = action-body y q in
     sym (action-back x) ∙ cc (b .is, b .fields, d .is, d .fields, same) ∙ action-back y
 
--- Back: what holds of a line that is not refused
-record Good (l : List ℕ) : Type 0 where
-  digits : allDigits l ≡ true
-  known : lineKind (bytesOf l) < 4
-  long : length l ≡ digitsOf (lineKind (bytesOf l))
-  outcome : eqb (lineKind (bytesOf l)) 2 && ltb 3 (getD (lineFields (bytesOf l)) 4 0) ≡ false
-  sum : total (bytesOf l) ≡ 0
-  start : eqb (lineKind (bytesOf l)) 0 && not (countRight (getD (lineFields (bytesOf l)) 0 0)) ≡ false
-
-good : (l : List ℕ) → lineRefusal l ≡ 0 → Good l
-unfolding lineRefusal
-good l p =
-    let kind = lineKind (bytesOf l) in
-    let above = eqb kind 2 && ltb 3 (getD (lineFields (bytesOf l)) 4 0) in
-    let wrong = eqb kind 0 && not (countRight (getD (lineFields (bytesOf l)) 0 0)) in
-    let r₅ = given wrong 15 0 in
-    let r₄ = given (not (eqb (total (bytesOf l)) 0)) 13 r₅ in
-    let r₃ = given above 11 r₄ in
-    let r₂ = given (not (eqb (length l) (digitsOf kind))) 11 r₃ in
-    let r₁ = given (leb (length kinds) kind) 11 r₂ in
-    let r₀ = given (eqb (length l % 2) 1 || eqb (length l) 0) 11 r₁ in
-    let g₀ = given-none (not (allDigits l)) 11 r₀ p in
-    let g₁ = given-none (eqb (length l % 2) 1 || eqb (length l) 0) 10 r₁ (g₀ .1) in
-    let g₂ = given-none (leb (length kinds) kind) 10 r₂ (g₁ .1) in
-    let g₃ = given-none (not (eqb (length l) (digitsOf kind))) 10 r₃ (g₂ .1) in
-    let g₄ = given-none above 10 r₄ (g₃ .1) in
-    let g₅ = given-none (not (eqb (total (bytesOf l)) 0)) 12 r₅ (g₄ .1) in
-    let g₆ = given-none wrong 14 0 (g₅ .1) in
-    record {
-      digits = not-false (allDigits l) (g₀ .0);
-      known = leb-false 4 kind (g₂ .0);
-      long = eqb-true (length l) (digitsOf kind) (not-false (eqb (length l) (digitsOf kind)) (g₃ .0));
-      outcome = g₄ .0;
-      sum = eqb-true (total (bytesOf l)) 0 (not-false (eqb (total (bytesOf l)) 0) (g₅ .0));
-      start = g₆ .0;
-    }
-
--- the bytes of such a line are its kind, its fields and the check
-whole-bytes : (bs : List ℕ) → Bytes bs → length bs ≡ summed (widths (lineKind bs)) + 2 → total bs ≡ 0
-    → sealed (lineKind bs ∷ packed (widths (lineKind bs)) (lineFields bs)) ≡ bs
-unfolding lineKind lineFields sealed
-whole-bytes [] p n z = absurd (omega arith)
-whole-bytes (b ∷ bs) p n z =
-    let ws = widths b in
+-- Back: the bytes of a line with its kind's length and the sum zero are its kind, its fields and the check, whatever the kinds
+whole-bytes : (ks : List Kind) (bs : List ℕ) → Bytes bs → length bs ≡ summed (widthsIn ks (lineKind bs)) + 2 → total bs ≡ 0
+    → sealed (lineKind bs ∷ packed (widthsIn ks (lineKind bs)) (fieldsIn ks bs)) ≡ bs
+unfolding lineKind fieldsIn sealed
+whole-bytes ks [] p n z = absurd (omega arith)
+whole-bytes ks (b ∷ bs) p n z =
+    let ws = widthsIn ks b in
     let last = getD bs (summed ws) 0 in
     let parts : bs ≡ take (summed ws) bs ++ (last ∷ []) = to-last bs (summed ws) (omega arith) in
     let fields : packed ws (unpacked ws bs) ≡ take (summed ws) bs = packed-unpacked ws bs (p .1) (omega arith) in
@@ -173,24 +217,27 @@ whole-bytes (b ∷ bs) p n z =
     let c = check-of (b ∷ take (summed ws) bs) last (bytes-at bs (summed ws) (p .1) (omega arith)) zero-sum in
     rw (fields, ← c) (ap (λ (r : List ℕ). b ∷ r) (sym parts))
 
-good-body : (l : List ℕ) → Good l → body (lineKind (bytesOf l)) (lineFields (bytesOf l)) ≡ l
-unfolding body digitsOf
-good-body l g =
-    let n : length (bytesOf l) ≡ summed (widths (lineKind (bytesOf l))) + 2 = omega (arith, g .long, length-bytesOf l) in
-    ap spelled (whole-bytes (bytesOf l) (bytes-of l (g .digits)) n (g .sum)) ∙ spelled-bytesOf l (g .digits) (omega (arith, g .long))
+pub whole-frame : (ks : List Kind) (l : List ℕ) → allDigits l ≡ true → length l ≡ digitsIn ks (lineKind (bytesOf l)) → total (bytesOf l) ≡ 0
+    → frameIn ks (lineKind (bytesOf l)) (fieldsIn ks (bytesOf l)) ≡ l ++ (10 ∷ [])
+unfolding body digitsIn
+whole-frame ks l d long z =
+    let bs = bytesOf l in
+    let n : length bs ≡ summed (widthsIn ks (lineKind bs)) + 2 = omega (arith, long, length-bytesOf l) in
+    let same : body ks (lineKind bs) (fieldsIn ks bs) ≡ l
+    = ap spelled (whole-bytes ks bs (bytes-of l d) n z) ∙ spelled-bytesOf l d (omega (arith, long)) in
+    frame-body ks (lineKind bs) (fieldsIn ks bs) ∙ ap (λ (r : List ℕ). r ++ (10 ∷ [])) same
 
 good-frame : (l : List ℕ) → Good l → frameOf (lineKind (bytesOf l)) (lineFields (bytesOf l)) ≡ l ++ (10 ∷ [])
-good-frame l g = frame-body (lineKind (bytesOf l)) (lineFields (bytesOf l)) ∙ ap (λ (r : List ℕ). r ++ (10 ∷ [])) (good-body l g)
+good-frame l g = whole-frame journalKinds l (g .digits) (g .long) (g .sum)
 
 -- the action of a known kind and its fields has that kind and those fields
-action-there : (kind : ℕ) (bs : List ℕ) → 0 < kind → kind < 4
+action-there : (bs : List ℕ) (kind : ℕ) → known kind ≡ true → (kind ≡ 0 → ⊥)
     → (kindOf (actionOf kind (unpacked (widths kind) bs)) ≡ kind) × (fieldsOf (actionOf kind (unpacked (widths kind) bs)) ≡ unpacked (widths kind) bs)
-unfolding actionOf unpacked widths
-action-there zero bs p q = absurd (omega arith)
-action-there (suc zero) bs p q = (refl, refl)
-action-there (suc (suc zero)) bs p q = (refl, refl)
-action-there (suc (suc (suc zero))) bs p q = (refl, refl)
-action-there (suc (suc (suc (suc k)))) bs p q = absurd (omega arith)
+unfolding actionOf unpacked widthsIn journalKinds
+action-there bs =
+    kind-cases
+    (λ (k : ℕ). (k ≡ 0 → ⊥) → (kindOf (actionOf k (unpacked (widths k) bs)) ≡ k) × (fieldsOf (actionOf k (unpacked (widths k) bs)) ≡ unpacked (widths k) bs))
+    (λ z. absurd (z refl)) (λ z. (refl, refl)) (λ z. (refl, refl)) (λ z. (refl, refl))
 
 -- what a line that reads as a step, or as a start, is
 step-read : (line : ℕ) (l : List ℕ) (s : Step) → readLine line l ≡ Act s
@@ -234,13 +281,13 @@ pub record IsFrame (line : ℕ) (l : List ℕ) (s : Step) : Type 0 where
   pub told : s .line ≡ line
 
 pub step-framed : (line : ℕ) (l : List ℕ) (s : Step) → readLine line l ≡ Act s → IsFrame line l s
-unfolding frame wide lineFields
+unfolding frame wide fieldsIn
 step-framed line l s e =
     let r = step-read line l s e in
     let g = good l (r .0) in
     let bs = bytesOf l in
     let kind = lineKind bs in
-    let there = action-there kind (drop 1 bs) (omega (arith, r .1)) (g .known) in
+    let there = action-there (drop 1 bs) kind (g .has-kind) (r .1) in
     let acts : s .action ≡ actionOf kind (lineFields bs) = ap (λ (x : Step). x .action) (r .2) in
     let is : kindOf (s .action) ≡ kind = ap kindOf acts ∙ there .0 in
     let has : fieldsOf (s .action) ≡ lineFields bs = ap fieldsOf acts ∙ there .1 in
@@ -257,32 +304,47 @@ one-frame line line′ l l′ s s′ p q e =
     snoc-injective l l′ 10 (sym (step-framed line l s p .spells) ∙ ap frame e ∙ step-framed line′ l′ s′ q .spells)
 
 -- The same for starts.
-start-body : (n : ℕ) → countRight n ≡ true → Back (body 0 (n ∷ [])) 0 (n ∷ [])
-unfolding widths
-start-body n p =
-    let most = leb-true n 16 (and-right (leb 2 n) (leb n 16) p) in
-    back 0 (n ∷ []) (omega arith) refl (cc (lt-ltb n 256 (omega arith)))
+start-body : ℕ → List ℕ
+start-body n = body journalKinds 0 (n ∷ [])
 
-read-start : (n line : ℕ) → countRight n ≡ true → readLine line (body 0 (n ∷ [])) ≡ Begin n
+start-back : (n : ℕ) → countRight n ≡ true → Back journalKinds (start-body n) 0 (n ∷ [])
+unfolding widthsIn journalKinds start-body
+start-back n p =
+    let most = leb-true n 16 (and-right (leb 2 n) (leb n 16) p) in
+    back journalKinds 0 (n ∷ []) (omega arith) refl (cc (lt-ltb n 256 (omega arith)))
+
+start-known : known 0 ≡ true
+unfolding knownIn journalKinds
+start-known = refl
+
+read-start : (n line : ℕ) → countRight n ≡ true → readLine line (start-body n) ≡ Begin n
 read-start n line p =
-    let l = body 0 (n ∷ []) in
-    let b = start-body n p in
-    let whole = refusal-whole l (b .digits) (omega (arith, b .is)) (b .long ∙ ap digitsOf (sym (b .is))) in
-    let none : lineRefusal l ≡ 0 = rw (whole, b .is, b .fields, b .sum, p) refl in
-    sym (rw (b .fields) at (read-begin line l none (b .is)))
+    let l = start-body n in
+    let b = start-back n p in
+    let right : Good l = record {
+      digits = b .digits;
+      has-kind = rw (b .is) start-known;
+      long = b .long ∙ ap digitsOf (sym (b .is));
+      outcome = rw (b .is) refl;
+      sum = b .sum;
+      start = rw (b .is, b .fields, p) refl;
+    } in
+    sym (rw (b .fields) at (read-begin line l (clear l right) (b .is)))
+
+frame-start : (n : ℕ) → startFrame n ≡ start-body n ++ (10 ∷ [])
+unfolding startFrame start-body
+frame-start n = frame-body journalKinds 0 (n ∷ [])
 
 pub start-ends : (n : ℕ) → (l : List ℕ) × (startFrame n ≡ l ++ (10 ∷ []))
-unfolding startFrame
-start-ends n = (body 0 (n ∷ []), frame-body 0 (n ∷ []))
+start-ends n = (start-body n, frame-start n)
 
 pub start-reads : (n line : ℕ) (l : List ℕ) → countRight n ≡ true → startFrame n ≡ l ++ (10 ∷ []) → readLine line l ≡ Begin n
-unfolding startFrame
 start-reads n line l p e =
-    let same : body 0 (n ∷ []) ≡ l = snoc-injective (body 0 (n ∷ [])) l 10 (sym (frame-body 0 (n ∷ [])) ∙ e) in
+    let same : start-body n ≡ l = snoc-injective (start-body n) l 10 (sym (frame-start n) ∙ e) in
     rw (← same) (read-start n line p)
 
 start-field : (bs : List ℕ) → lineKind bs ≡ 0 → lineFields bs ≡ getD (lineFields bs) 0 0 ∷ []
-unfolding lineFields unpacked widths
+unfolding fieldsIn unpacked widthsIn journalKinds
 start-field bs e = rw e refl
 
 pub start-framed : (line : ℕ) (l : List ℕ) (n : ℕ) → readLine line l ≡ Begin n → (startFrame n ≡ l ++ (10 ∷ [])) × (countRight n ≡ true)
@@ -307,7 +369,7 @@ start-injective n m p q e =
 -- What the writer left and says that it wrote, read without its LF, is the step; so for a start.
 pub written-reads : (out : List ℕ) (x : Action) (line k : ℕ) → wide x ≡ true → frameReply out x ≡ Length k
     → readLine line (take (k - 1) (frameAfter out x)) ≡ Act (record { line = line; action = x })
-unfolding writerRefusal place
+unfolding place
 written-reads out x line k p e = go (writerRefusal out x) refl
   where
     go : (n : ℕ) → writerRefusal out x ≡ n → readLine line (take (k - 1) (frameAfter out x)) ≡ Act (record { line = line; action = x })
@@ -319,14 +381,15 @@ written-reads out x line k p e = go (writerRefusal out x) refl
         let r = framed-right out x q in
         let ends = frame-ends x in
         let long : length (frame x) ≡ k = cc (r .0) in
-        let within = given-none (outcomeAbove x) 1 (given (ltb (length out) (length (frame x))) 17 0) q .0 in
+        let within = written-within out x q in
         let n : length (ends .0) ≡ k - 1 = omega (arith, ap length (ends .1), length-append (ends .0) (10 ∷ [])) in
-        let text : frameAfter out x ≡ ends .0 ++ (10 ∷ drop (0 + length (frame x)) out)
-        = sym (r .1) ∙ ap (λ (f : List ℕ). f ++ drop (0 + length (frame x)) out) (ends .1) ∙ append-assoc (ends .0) (10 ∷ []) (drop (0 + length (frame x)) out) in
-        rw (text, take-at (ends .0) (10 ∷ drop (0 + length (frame x)) out) (k - 1) n) (frame-reads x line (ends .0) p within (ends .1))
+        let rest = drop (0 + length (frame x)) out in
+        let text : frameAfter out x ≡ ends .0 ++ (10 ∷ rest)
+        = sym (r .1) ∙ ap (λ (f : List ℕ). f ++ rest) (ends .1) ∙ append-assoc (ends .0) (10 ∷ []) rest in
+        rw (text, take-at (ends .0) (10 ∷ rest) (k - 1) n) (frame-reads x line (ends .0) p within (ends .1))
 
 pub started-reads : (out : List ℕ) (n line k : ℕ) → startReply out n ≡ Length k → readLine line (take (k - 1) (startAfter out n)) ≡ Begin n
-unfolding starterRefusal place
+unfolding place
 started-reads out n line k e = go (starterRefusal out n) refl
   where
     go : (m : ℕ) → starterRefusal out n ≡ m → readLine line (take (k - 1) (startAfter out n)) ≡ Begin n
@@ -338,8 +401,9 @@ started-reads out n line k e = go (starterRefusal out n) refl
         let r = started-right out n q in
         let ends = start-ends n in
         let long : length (startFrame n) ≡ k = cc (r .0) in
-        let right = not-false (countRight n) (given-none (not (countRight n)) 14 (given (ltb (length out) (length (startFrame n))) 17 0) q .0) in
+        let right = started-within out n q in
         let s : length (ends .0) ≡ k - 1 = omega (arith, ap length (ends .1), length-append (ends .0) (10 ∷ [])) in
-        let text : startAfter out n ≡ ends .0 ++ (10 ∷ drop (0 + length (startFrame n)) out)
-        = sym (r .1) ∙ ap (λ (f : List ℕ). f ++ drop (0 + length (startFrame n)) out) (ends .1) ∙ append-assoc (ends .0) (10 ∷ []) (drop (0 + length (startFrame n)) out) in
-        rw (text, take-at (ends .0) (10 ∷ drop (0 + length (startFrame n)) out) (k - 1) s) (start-reads n line (ends .0) right (ends .1))
+        let rest = drop (0 + length (startFrame n)) out in
+        let text : startAfter out n ≡ ends .0 ++ (10 ∷ rest)
+        = sym (r .1) ∙ ap (λ (f : List ℕ). f ++ rest) (ends .1) ∙ append-assoc (ends .0) (10 ∷ []) rest in
+        rw (text, take-at (ends .0) (10 ∷ rest) (k - 1) s) (start-reads n line (ends .0) right (ends .1))

@@ -1,6 +1,8 @@
 pub mod Edges
 pub mod PlaceLaws
+pub mod PieceLaws
 pub mod RowLaws
+pub mod RefusalLaws
 pub mod TableLaws
 pub mod StepLaws
 pub mod FrameLaws
@@ -18,7 +20,9 @@ pub mod AccountRises
 pub mod AccountJournals
 pub mod VerdictLaws
 pub mod VerdictTheorems
+pub mod ClassRanges
 pub mod OneReply
 pub mod FrameInverses
 pub mod FrameTheorems
+pub mod WideLaws
 pub mod Numbers

@@ -1,4 +1,5 @@
--- What it is that a contract allows one reply. It is said of the contract's own generated reading (`Post` of a function's `Reads`), so it cannot drift from the source.
+-- What it is that a contract allows one reply. It is said of the contract's own generated reading (`Post` of a function's `Reads`), so it
+-- cannot drift from the source.
 -- Document 01, "How much a contract says": "That two replies allowed by the same contract are equal is itself proved".
 use mathlib.Core.Path.{_≡_}
 use mathlib.Core.List.{List}

@@ -64,7 +64,9 @@ part-same at ys t k e fits =
     getD-part at k (place at ys t) i (at + i) refl (omega arith) ∙ getD-within at ys t fits i (at + i) refl (omega arith))
 
 -- a part that lies apart from what was put is as it was
-pub part-away : (a k at : ℕ) (ys t : List ℕ) → at + length ys ≤ length t → a + k ≤ length t → (a < at + length ys → at < a + k → ⊥) → part a k (place at ys t) ≡ part a k t
+pub part-away :
+    (a k at : ℕ) (ys t : List ℕ) → at + length ys ≤ length t → a + k ≤ length t → (a < at + length ys → at < a + k → ⊥) →
+    part a k (place at ys t) ≡ part a k t
 part-away a k at ys t fits fit′ apart =
     let lp : length (place at ys t) ≡ length t = length-place at ys t fits in
     let l : length (part a k (place at ys t)) ≡ k = length-part a k (place at ys t) (omega arith) in
@@ -121,7 +123,9 @@ place-part at k t h =
     (λ i b. refl))
 
 -- two lists put one after the other
-pub place-append : (at next : ℕ) (xs ys t : List ℕ) → next ≡ at + length xs → next + length ys ≤ length t → place next ys (place at xs t) ≡ place at (xs ++ ys) t
+pub place-append :
+    (at next : ℕ) (xs ys t : List ℕ) → next ≡ at + length xs → next + length ys ≤ length t →
+    place next ys (place at xs t) ≡ place at (xs ++ ys) t
 place-append at next xs ys t e fits =
     let la : length (xs ++ ys) ≡ length xs + length ys = length-append xs ys in
     let lx : length (place at xs t) ≡ length t = length-place at xs t (omega arith) in

@@ -9,20 +9,40 @@ use lib.ListN.{length, getD, set, take, drop, replicate, length-take, length-app
 use lib.Seq.{take-suc, take-take, drop-cons}
 use Rattle.meaning.specs.declared.Record.{Record}
 use Rattle.meaning.specs.Rows.{recordAt, records, words, above}
-use Rattle.meaning.specs.Table.{Node, tableWords, nodesMost, logMost, summaryAt, acksAt, heldAt, logAt, part, place, count, held, node, putNode}
+use Rattle.meaning.specs.Table.{
+  Node,
+  tableWords,
+  nodesMost,
+  logMost,
+  summaryAt,
+  acksAt,
+  heldAt,
+  logAt,
+  part,
+  place,
+  count,
+  held,
+  node,
+  lay,
+  logWords,
+  pieces,
+  putNode,
+  Sound,
+}
 use Rattle.meaning.specs.Node.{wrote, purged}
 use Rattle.meaning.proofs.PlaceLaws.{length-place, length-part, part-away, place-part, place-append, place-none, place-inner, set-place}
 use Rattle.meaning.proofs.RowLaws.{length-words, length-above, words-append, words-none}
-use Rattle.meaning.proofs.TableLaws.{Sound, log-length, logWords}
+use Rattle.meaning.proofs.TableLaws.{log-length}
 
 -- four elements more of a beginning
 take-four :
     (w : List ℕ) (m : ℕ) → m + 4 ≤ length w → take (m + 4) w ≡ take m w ++ (getD w m 0 ∷ getD w (m + 1) 0 ∷ getD w (m + 2) 0 ∷ getD w (m + 3) 0 ∷ [])
 take-four w m h =
-    let a : take (suc m) w ≡ take m w ++ (getD w m 0 ∷ []) = take-suc w m 0 (omega arith) in
-    let b : take (suc (suc m)) w ≡ take (suc m) w ++ (getD w (suc m) 0 ∷ []) = take-suc w (suc m) 0 (omega arith) in
-    let c : take (suc (suc (suc m))) w ≡ take (suc (suc m)) w ++ (getD w (suc (suc m)) 0 ∷ []) = take-suc w (suc (suc m)) 0 (omega arith) in
-    let d : take (suc (suc (suc (suc m)))) w ≡ take (suc (suc (suc m))) w ++ (getD w (suc (suc (suc m))) 0 ∷ []) = take-suc w (suc (suc (suc m))) 0 (omega arith) in
+    let more : (i : ℕ) → i < length w → take (suc i) w ≡ take i w ++ (getD w i 0 ∷ []) = λ i b. take-suc w i 0 b in
+    let a = more m (omega arith) in
+    let b = more (suc m) (omega arith) in
+    let c = more (suc (suc m)) (omega arith) in
+    let d = more (suc (suc (suc m))) (omega arith) in
     simp towards-suc (d ∙ rw (c, b, a) (simp append-assoc))
 
 -- the words of the first k records of a log are its first 4k words
@@ -76,7 +96,9 @@ module _ (t : List ℕ) (s : Sound t) (p : ℕ) (h : p < count t) where
       words-records (held t p) (part (logAt p) (4 * logMost) t) (omega arith) ∙ part-part (logAt p) (4 * logMost) (4 * held t p) t (omega arith)
 
   -- records appended to the log
-  pub put-log-more : (x : Node) (rs : List Record) → x .log ≡ node t p .log ++ rs → held t p + length rs ≤ logMost → place (logAt p) (logWords p x t) t ≡ place (logAt p + 4 * held t p) (words rs) t
+  pub put-log-more :
+      (x : Node) (rs : List Record) → x .log ≡ node t p .log ++ rs → held t p + length rs ≤ logMost →
+      place (logAt p) (logWords p x t) t ≡ place (logAt p + 4 * held t p) (words rs) t
   put-log-more x rs e fits =
       let l = long in
       let g = high in
@@ -105,7 +127,9 @@ module _ (t : List ℕ) (s : Sound t) (p : ℕ) (h : p < count t) where
       ap (λ (y : List ℕ). place (heldAt p) y u) (sym o) ∙ place-part (heldAt p) 1 u (omega arith)
 
   -- a row as it is, and a row with one entry changed
-  pub put-row-same : (at : ℕ) (u : List ℕ) → length u ≡ tableWords → at + nodesMost ≤ tableWords → part at (count t) u ≡ part at (count t) t → place at (part at (count t) t) u ≡ u
+  pub put-row-same :
+      (at : ℕ) (u : List ℕ) → length u ≡ tableWords → at + nodesMost ≤ tableWords → part at (count t) u ≡ part at (count t) t →
+      place at (part at (count t) t) u ≡ u
   put-row-same at u lu inside e =
       let g = high in
       ap (λ (y : List ℕ). place at y u) (sym e) ∙ place-part at (count t) u (omega arith)
@@ -154,7 +178,7 @@ module _ (t : List ℕ) (s : Sound t) (p : ℕ) (h : p < count t) where
 
     -- a node whose log has grown by these records, put piece by piece
     pub put-grown : (x : Node) → x .log ≡ node t p .log ++ rs → putNode p x t ≡ place (summaryAt p) (x .summary) (place (acksAt p) (x .acks) (grown rs))
-    unfolding putNode
+    unfolding putNode pieces lay
     put-grown x e =
         let ll = log-length t p in
         let la = length-append (node t p .log) rs in
@@ -166,7 +190,8 @@ module _ (t : List ℕ) (s : Sound t) (p : ℕ) (h : p < count t) where
   pub grown-none : grown [] ≡ t
   grown-none =
       let l = long in
-      ap (λ (u : List ℕ). place (heldAt p) ((held t p + 0) ∷ []) u) (ap (λ (w : List ℕ). place (logAt p + 4 * held t p) w t) words-none ∙ place-none (logAt p + 4 * held t p) t) ∙
+      ap (λ (u : List ℕ). place (heldAt p) ((held t p + 0) ∷ []) u)
+      (ap (λ (w : List ℕ). place (logAt p + 4 * held t p) w t) words-none ∙ place-none (logAt p + 4 * held t p) t) ∙
       put-held-same t (held t p + 0) l (held-word t p ∙ sym (add-zero (held t p)))
 
   -- Write: a record put behind the last, the held number, the own entry
@@ -183,7 +208,8 @@ module _ (t : List ℕ) (s : Sound t) (p : ℕ) (h : p < count t) where
       let lu = grown-long (r ∷ []) (omega arith) in
       sym
       (put-grown (r ∷ []) (omega arith) (wrote p c b v (node t p)) refl ∙
-      ap (place (summaryAt p) (set (part (summaryAt p) (count t) t) p c)) (put-row-same (acksAt p) u lu (omega arith) (grown-part (r ∷ []) (omega arith) (acksAt p) (count t) (omega arith))) ∙
+      ap (place (summaryAt p) (set (part (summaryAt p) (count t) t) p c))
+      (put-row-same (acksAt p) u lu (omega arith) (grown-part (r ∷ []) (omega arith) (acksAt p) (count t) (omega arith))) ∙
       put-row-set (summaryAt p) p (summaryAt p + p) c u refl h lu (omega arith) (grown-part (r ∷ []) (omega arith) (summaryAt p) (count t) (omega arith)))
 
   -- Purge: the records left closed up, zeros over the freed rows, the held number
@@ -192,7 +218,7 @@ module _ (t : List ℕ) (s : Sound t) (p : ℕ) (h : p < count t) where
       place (heldAt p) (k ∷ [])
       (place (logAt p + 4 * k) (replicate (4 * (held t p - k)) 0) (place (logAt p) (words (above limit (node t p .log))) t)) ≡
       putNode p (purged limit (node t p)) t
-  unfolding putNode purged
+  unfolding putNode pieces lay purged
   purge-put limit k e =
       let l = long in
       let g = high in
@@ -218,14 +244,20 @@ module _ (t : List ℕ) (s : Sound t) (p : ℕ) (h : p < count t) where
       in
       ap (place (heldAt p) (k ∷ [])) (place-append (logAt p) (logAt p + 4 * k) (words rs) z t (omega arith) (omega arith)) ∙
       sym
-      (ap (λ (m : ℕ). place (summaryAt p) (x .summary) (place (acksAt p) (x .acks) (place (heldAt p) (m ∷ []) (place (logAt p) (words rs ++ replicate (4 * (held t p - m)) 0) t)))) (sym e) ∙
+      (ap
+      (λ (m : ℕ).
+      place (summaryAt p) (x .summary)
+      (place (acksAt p) (x .acks) (place (heldAt p) (m ∷ []) (place (logAt p) (words rs ++ replicate (4 * (held t p - m)) 0) t))))
+      (sym e) ∙
       ap (place (summaryAt p) (x .summary)) (row-acks v lv (kept (acksAt p) (omega arith))) ∙
       row-summary v lv (kept (summaryAt p) (omega arith)))
     where
       row-acks : (v : List ℕ) → length v ≡ tableWords → part (acksAt p) (count t) v ≡ part (acksAt p) (count t) t → place (acksAt p) (node t p .acks) v ≡ v
       row-acks v lv e = let g = high in acks-same t p v (put-row-same (acksAt p) v lv (omega arith) e)
 
-      row-summary : (v : List ℕ) → length v ≡ tableWords → part (summaryAt p) (count t) v ≡ part (summaryAt p) (count t) t → place (summaryAt p) (node t p .summary) v ≡ v
+      row-summary :
+          (v : List ℕ) → length v ≡ tableWords → part (summaryAt p) (count t) v ≡ part (summaryAt p) (count t) t →
+          place (summaryAt p) (node t p .summary) v ≡ v
       row-summary v lv e = let g = high in summary-same t p v (put-row-same (summaryAt p) v lv (omega arith) e)
 
   -- Both rows put, the log as it was

@@ -12,20 +12,10 @@ use lib.ListN.{length, getD, take, length-append, List·getD-append}
 use lib.Seq.{ext-getD, getD-take, getD-at, take-suc, length-take-le}
 use lib.Dec.{leb, ltb}
 use Rattle.meaning.specs.declared.Record.{Record}
-use Rattle.meaning.specs.Rows.{given, every, keep, keepIf, least, raise, covers, newer, above, recordAt, records, words}
+use Rattle.meaning.specs.Rows.{every, all, keep, keepIf, least, raise, covers, newer, above, recordAt, records, words}
 
 abbrev pub noRecord : Record
 noRecord = record { origin = 0; timestamp = 0; block = 0; verdict = 0 }
-
--- Refusals in order: none is given only where no test passes
-pub given-none : (b : Bool) (k rest : ℕ) → given b (suc k) rest ≡ 0 → (b ≡ false) × (rest ≡ 0)
-given-none true k rest h = absurd (omega arith)
-given-none false k rest h = (refl, h)
-
--- f passes at each element of a list
-unfoldable pub all : {A : Type 0} → (A → Bool) → List A → Bool
-all f [] = true
-all f (x ∷ xs) = f x && all f xs
 
 pub and-assoc′ : (a b c : Bool) → (a && (b && c)) ≡ ((a && b) && c)
 and-assoc′ true b c = refl

@@ -1,51 +1,53 @@
--- Laws of steps: what an accepted step is known to meet, the node that each action leaves, and that a sound table stays sound.
+-- Laws of steps: what an accepted step is known to meet, the node that each action leaves, that a sound table stays sound, and the refusal
+-- of each action by the tests that were passed before it.
 use mathlib.Core.Path.{_≡_, refl, sym, ap, _∙_}
-use mathlib.Core.Bool.{Bool, true, false, not, _&&_, _||_, true≢false, and-true}
+use mathlib.Core.Bool.{Bool, true, false, not, _&&_, _||_, true≢false, and-true, or-true, cond}
 use mathlib.Core.List.{List, [], _∷_, _++_, append-nil}
-use Prim.Native.Nat.{ℕ, zero, suc, _+_, _-_, _*_, _≤_, _<_}
+use Prim.Native.Nat.{ℕ, zero, suc, _-_, _*_, _≤_, _<_}
 use native.Mathlib.Omega.{arith}
-use borrow.Author.Tests.{leb-false, ltb-false, eqb-false, le-leb, lt-ltb, not-false}
+use borrow.Author.Tests.{leb-false, ltb-false, eqb-false, le-leb, lt-leb, le-ltb, lt-ltb, eq-eqb, ne-eqb, not-false}
 use lib.Seq.{take-at}
 use lib.ListN.{length, getD, take, length-set, length-append, length-replicate, getD-replicate}
-use lib.Dec.{leb, ltb, eqb}
+use lib.Dec.{leb, ltb}
 use Rattle.meaning.specs.declared.Record.{Record}
 use Rattle.meaning.specs.declared.Action.{Action}
 use Rattle.meaning.specs.declared.Action.the-variants.{Write, Session, Purge}
 use Rattle.meaning.specs.declared.Reply.the-variants.{Refused}
-use Rattle.meaning.specs.Rows.{given, newer, above, records}
-use Rattle.meaning.specs.Table.{Node, tableWords, nodesMost, logMost, countAt, heldAt, logAt, part, count, held, node, putNode, fresh, recordSound, sound}
+use Rattle.meaning.specs.Rows.{all, newer, above, records}
+use Rattle.meaning.specs.Refusals.{first}
+use Rattle.meaning.specs.Table.{
+  Node,
+  tableWords,
+  nodesMost,
+  logMost,
+  countAt,
+  heldAt,
+  logAt,
+  part,
+  count,
+  held,
+  node,
+  putNode,
+  fresh,
+  recordSound,
+  sound,
+  Sound,
+  Shaped,
+}
 use Rattle.meaning.specs.Node.{own, wrote, opened, sent, finished, ended, purged}
-use Rattle.meaning.specs.Steps.{finishesA, finishesB, outcomeAbove, nodeAbsent, nodeTwice, clockBack, overfull, noRoom, refusal, limit, acted, reported, reply, after}
-use Rattle.meaning.proofs.RowLaws.{given-none, all, all-append, all-keep, length-above, and-both, length-raise, length-records, records-take}
-use Rattle.meaning.proofs.TableLaws.{Sound, Shaped, sound-facts, facts-sound, sound-put, node-shaped, node-same, node-other, put-count, put-held-other, held-log}
-
--- What an accepted step is known to meet
-pub record Accepted (t : List ℕ) (x : Action) : Type 0 where
-  pub isSound : Sound t
-  pub outcome : outcomeAbove x ≡ false
-  pub present : nodeAbsent (count t) x ≡ false
-  pub apart : nodeTwice x ≡ false
-  pub clock : clockBack t x ≡ false
-  pub room : noRoom t x ≡ false
-
-pub accepted : (t : List ℕ) (x : Action) → refusal t x ≡ 0 → Accepted t x
-unfolding refusal
-accepted t x h =
-    let a = given-none (not (sound t)) 0 (given (outcomeAbove x) 2 (given (nodeAbsent (count t) x) 3 (given (nodeTwice x) 4 (given (clockBack t x) 5 (given (noRoom t x) 6 0))))) h in
-    let b = given-none (outcomeAbove x) 1 (given (nodeAbsent (count t) x) 3 (given (nodeTwice x) 4 (given (clockBack t x) 5 (given (noRoom t x) 6 0)))) (a .1) in
-    let c = given-none (nodeAbsent (count t) x) 2 (given (nodeTwice x) 4 (given (clockBack t x) 5 (given (noRoom t x) 6 0))) (b .1) in
-    let d = given-none (nodeTwice x) 3 (given (clockBack t x) 5 (given (noRoom t x) 6 0)) (c .1) in
-    let e = given-none (clockBack t x) 4 (given (noRoom t x) 6 0) (d .1) in
-    let f = given-none (noRoom t x) 5 0 (e .1) in
-    record { isSound = sound-facts t (not-false (sound t) (a .0)); outcome = b .0; present = c .0; apart = d .0; clock = e .0; room = f .0 }
-
-pub after-accepted : (t : List ℕ) (x : Action) → refusal t x ≡ 0 → after t x ≡ acted t x
-unfolding after
-after-accepted t x h = rw h
-
-pub after-refused : (t : List ℕ) (x : Action) (k : ℕ) → refusal t x ≡ suc k → after t x ≡ t
-unfolding after
-after-refused t x k h = rw h
+use Rattle.meaning.specs.Steps.{finishesA, finishesB, overfull, refusals, refusal, limit, acted, reported, reply, after}
+use Rattle.meaning.proofs.RowLaws.{all-append, all-keep, length-above, and-both, length-raise, length-records, records-take}
+use Rattle.meaning.proofs.RefusalLaws.{numbered, testOf, first-at}
+use Rattle.meaning.proofs.TableLaws.{
+  sound-facts,
+  facts-sound,
+  sound-put,
+  node-shaped,
+  node-same,
+  node-other,
+  put-count,
+  held-log,
+}
 
 pub or-left : (a b : Bool) → (a || b) ≡ false → a ≡ false
 or-left true b h = h
@@ -54,6 +56,84 @@ or-left false b h = refl
 pub or-right : (a b : Bool) → (a || b) ≡ false → b ≡ false
 or-right true b h = absurd (true≢false h)
 or-right false b h = h
+
+-- What an accepted write is known to meet
+pub record MayWrite (t : List ℕ) (p c : ℕ) : Type 0 where
+  pub isSound : Sound t
+  pub here : p < count t
+  pub later : own p (node t p) < c
+  pub room : length (node t p .log) < logMost
+
+-- an accepted session
+pub record MayMeet (t : List ℕ) (a b ca cb o : ℕ) : Type 0 where
+  pub isSound : Sound t
+  pub outcome : o ≤ 3
+  pub hereA : a < count t
+  pub hereB : b < count t
+  pub apart : a ≡ b → ⊥
+  pub clockA : own a (node t a) ≤ ca
+  pub clockB : own b (node t b) ≤ cb
+  pub roomA : overfull (finishesA o) (opened a ca (node t a)) (opened b cb (node t b)) ≡ false
+  pub roomB : overfull (finishesB o) (opened b cb (node t b)) (opened a ca (node t a)) ≡ false
+
+-- an accepted purge
+pub record MayPurge (t : List ℕ) (p : ℕ) : Type 0 where
+  pub isSound : Sound t
+  pub here : p < count t
+
+pub refusals-numbered : (t : List ℕ) (x : Action) → numbered (refusals t x) ≡ true
+unfolding refusals numbered
+refusals-numbered t (Write p c b v) = refl
+refusals-numbered t (Session a b ca cb o) = refl
+refusals-numbered t (Purge p) = refl
+
+-- where a step is accepted, each of its tests fails: found by its number, so that a row more moves no other
+passed : (t : List ℕ) (x : Action) → refusal t x ≡ 0 → (k : ℕ) → testOf k (refusals t x) ≡ false
+unfolding refusal
+passed t x h k = first-at k (refusals t x) (refusals-numbered t x) h
+
+pub may-write : (t : List ℕ) (p c b v : ℕ) → refusal t (Write p c b v) ≡ 0 → MayWrite t p c
+unfolding refusals testOf
+may-write t p c b v h =
+    let fails = passed t (Write p c b v) h in
+    record {
+      isSound = sound-facts t (not-false (sound t) (fails 1));
+      here = leb-false (count t) p (fails 3);
+      later = leb-false c (own p (node t p)) (fails 5);
+      room = leb-false logMost (length (node t p .log)) (fails 6);
+    }
+
+pub may-meet : (t : List ℕ) (a b ca cb o : ℕ) → refusal t (Session a b ca cb o) ≡ 0 → MayMeet t a b ca cb o
+unfolding refusals testOf
+may-meet t a b ca cb o h =
+    let fails = passed t (Session a b ca cb o) h in
+    let fullA = overfull (finishesA o) (opened a ca (node t a)) (opened b cb (node t b)) in
+    let fullB = overfull (finishesB o) (opened b cb (node t b)) (opened a ca (node t a)) in
+    record {
+      isSound = sound-facts t (not-false (sound t) (fails 1));
+      outcome = ltb-false 3 o (fails 2);
+      hereA = leb-false (count t) a (or-left (leb (count t) a) (leb (count t) b) (fails 3));
+      hereB = leb-false (count t) b (or-right (leb (count t) a) (leb (count t) b) (fails 3));
+      apart = eqb-false a b (fails 4);
+      clockA = ltb-false ca (own a (node t a)) (or-left (ltb ca (own a (node t a))) (ltb cb (own b (node t b))) (fails 5));
+      clockB = ltb-false cb (own b (node t b)) (or-right (ltb ca (own a (node t a))) (ltb cb (own b (node t b))) (fails 5));
+      roomA = or-left fullA fullB (fails 6);
+      roomB = or-right fullA fullB (fails 6);
+    }
+
+pub may-purge : (t : List ℕ) (p : ℕ) → refusal t (Purge p) ≡ 0 → MayPurge t p
+unfolding refusals testOf
+may-purge t p h =
+    let fails = passed t (Purge p) h in
+    record { isSound = sound-facts t (not-false (sound t) (fails 1)); here = leb-false (count t) p (fails 3) }
+
+pub after-accepted : (t : List ℕ) (x : Action) → refusal t x ≡ 0 → after t x ≡ acted t x
+unfolding after
+after-accepted t x h = rw h
+
+pub after-refused : (t : List ℕ) (x : Action) (k : ℕ) → refusal t x ≡ suc k → after t x ≡ t
+unfolding after
+after-refused t x k h = rw h
 
 -- A node that each action leaves fits the table
 module _ (n : ℕ) (x : Node) (fits : Shaped n x) where
@@ -94,7 +174,9 @@ pub opened-right : (n : ℕ) (x : Node) (p c : ℕ) → all (recordSound n) (x .
 unfolding opened
 opened-right n x p c h = h
 
-pub wrote-right : (n : ℕ) (x : Node) (p c b v : ℕ) → p < n → v ≤ 255 → all (recordSound n) (x .log) ≡ true → all (recordSound n) (wrote p c b v x .log) ≡ true
+pub wrote-right :
+    (n : ℕ) (x : Node) (p c b v : ℕ) → p < n → v ≤ 255 → all (recordSound n) (x .log) ≡ true →
+    all (recordSound n) (wrote p c b v x .log) ≡ true
 unfolding wrote all recordSound
 wrote-right n x p c b v hp hv h =
     all-append (recordSound n) (x .log) (record { origin = p; timestamp = c; block = b; verdict = v } ∷ []) ∙
@@ -126,151 +208,111 @@ sideA t a b ca cb o = ended (finishesA o) (opened a ca (node t a)) (opened b cb 
 abbrev pub sideB : List ℕ → ℕ → ℕ → ℕ → ℕ → ℕ → Node
 sideB t a b ca cb o = ended (finishesB o) (opened b cb (node t b)) (opened a ca (node t a))
 
-module _ (t : List ℕ) (s : Sound t) (a b ca cb o : ℕ) (ha : a < count t) (hb : b < count t) (apart : a ≡ b → ⊥) (room : noRoom t (Session a b ca cb o) ≡ false) where
+module _ (t : List ℕ) (a b ca cb o : ℕ) (m : MayMeet t a b ca cb o) where
+  s : Sound t
+  s = m .isSound
+
   startA : Shaped (count t) (opened a ca (node t a))
-  startA = opened-shaped (count t) (node t a) (node-shaped t s a ha) a ca
+  startA = opened-shaped (count t) (node t a) (node-shaped t s a (m .hereA)) a ca
 
   startB : Shaped (count t) (opened b cb (node t b))
-  startB = opened-shaped (count t) (node t b) (node-shaped t s b hb) b cb
+  startB = opened-shaped (count t) (node t b) (node-shaped t s b (m .hereB)) b cb
 
   pub sideA-shaped : Shaped (count t) (sideA t a b ca cb o)
-  unfolding noRoom
-  sideA-shaped =
-      ended-shaped (count t) (opened a ca (node t a)) startA (opened b cb (node t b)) startB (finishesA o)
-      (or-left (overfull (finishesA o) (opened a ca (node t a)) (opened b cb (node t b))) (overfull (finishesB o) (opened b cb (node t b)) (opened a ca (node t a))) room)
+  sideA-shaped = ended-shaped (count t) (opened a ca (node t a)) startA (opened b cb (node t b)) startB (finishesA o) (m .roomA)
 
   pub sideB-shaped : Shaped (count t) (sideB t a b ca cb o)
-  unfolding noRoom
-  sideB-shaped =
-      ended-shaped (count t) (opened b cb (node t b)) startB (opened a ca (node t a)) startA (finishesB o)
-      (or-right (overfull (finishesA o) (opened a ca (node t a)) (opened b cb (node t b))) (overfull (finishesB o) (opened b cb (node t b)) (opened a ca (node t a))) room)
+  sideB-shaped = ended-shaped (count t) (opened b cb (node t b)) startB (opened a ca (node t a)) startA (finishesB o) (m .roomB)
 
   rightA : all (recordSound (count t)) (opened a ca (node t a) .log) ≡ true
-  rightA = opened-right (count t) (node t a) a ca (s .right a ha)
+  rightA = opened-right (count t) (node t a) a ca (s .right a (m .hereA))
 
   rightB : all (recordSound (count t)) (opened b cb (node t b) .log) ≡ true
-  rightB = opened-right (count t) (node t b) b cb (s .right b hb)
+  rightB = opened-right (count t) (node t b) b cb (s .right b (m .hereB))
 
   abbrev pub halfway : List ℕ
   halfway = putNode a (sideA t a b ca cb o) t
 
   pub halfway-count : count halfway ≡ count t
-  halfway-count = put-count t (s .long) (count t) (s .high) a (let h = s .high in omega arith) (sideA t a b ca cb o) sideA-shaped (s .room a ha)
+  halfway-count = put-count t s a (m .hereA) (sideA t a b ca cb o) sideA-shaped
 
   pub halfway-sound : Sound halfway
-  halfway-sound = sound-put t s a ha (sideA t a b ca cb o) sideA-shaped (ended-right (count t) (opened a ca (node t a)) (opened b cb (node t b)) (finishesA o) rightA rightB)
+  halfway-sound =
+      sound-put t s a (m .hereA) (sideA t a b ca cb o) sideA-shaped
+      (ended-right (count t) (opened a ca (node t a)) (opened b cb (node t b)) (finishesA o) rightA rightB)
+
+  pub halfway-here : b < count halfway
+  halfway-here = rw halfway-count (m .hereB)
+
+  pub halfway-shaped : Shaped (count halfway) (sideB t a b ca cb o)
+  halfway-shaped = rw halfway-count sideB-shaped
 
   pub session-sound : Sound (acted t (Session a b ca cb o))
   unfolding acted
   session-sound =
-      let c = halfway-count in
-      sound-put halfway halfway-sound b (rw c hb) (sideB t a b ca cb o) (rw c sideB-shaped)
-      (rw c (ended-right (count t) (opened b cb (node t b)) (opened a ca (node t a)) (finishesB o) rightB rightA))
+      sound-put halfway halfway-sound b halfway-here (sideB t a b ca cb o) halfway-shaped
+      (rw halfway-count (ended-right (count t) (opened b cb (node t b)) (opened a ca (node t a)) (finishesB o) rightB rightA))
 
   -- the node of each side afterwards, and of any other
-  below : (q : ℕ) → q < count t → q < nodesMost
-  below q h = let g = s .high in omega arith
-
   pub session-count : count (acted t (Session a b ca cb o)) ≡ count t
   unfolding acted
-  session-count =
-      put-count halfway (halfway-sound .long) (count t) (s .high) b (below b hb) (sideB t a b ca cb o) sideB-shaped (halfway-sound .room b (rw halfway-count hb)) ∙ halfway-count
+  session-count = put-count halfway halfway-sound b halfway-here (sideB t a b ca cb o) halfway-shaped ∙ halfway-count
 
   pub session-b : node (acted t (Session a b ca cb o)) b ≡ sideB t a b ca cb o
   unfolding acted
-  session-b =
-      node-same halfway (halfway-sound .long) (count t) (s .high) b (below b hb) (sideB t a b ca cb o) sideB-shaped (halfway-sound .room b (rw halfway-count hb)) halfway-count
+  session-b = node-same halfway halfway-sound b halfway-here (sideB t a b ca cb o) halfway-shaped
 
   away : (q : ℕ) → q < count t → (q ≡ b → ⊥) → node (acted t (Session a b ca cb o)) q ≡ node halfway q
   unfolding acted
-  away q h other =
-      node-other halfway (halfway-sound .long) (count t) (s .high) b (below b hb) (sideB t a b ca cb o) sideB-shaped (halfway-sound .room b (rw halfway-count hb)) (sym halfway-count) q (below q h) other
+  away q h other = node-other halfway halfway-sound b halfway-here (sideB t a b ca cb o) halfway-shaped q (rw halfway-count h) other
 
   pub session-a : node (acted t (Session a b ca cb o)) a ≡ sideA t a b ca cb o
-  session-a =
-      away a ha apart ∙
-      node-same t (s .long) (count t) (s .high) a (below a ha) (sideA t a b ca cb o) sideA-shaped (s .room a ha) refl
+  session-a = away a (m .hereA) (m .apart) ∙ node-same t s a (m .hereA) (sideA t a b ca cb o) sideA-shaped
 
   pub session-other : (q : ℕ) → q < count t → (q ≡ a → ⊥) → (q ≡ b → ⊥) → node (acted t (Session a b ca cb o)) q ≡ node t q
-  session-other q h na nb =
-      away q h nb ∙
-      node-other t (s .long) (count t) (s .high) a (below a ha) (sideA t a b ca cb o) sideA-shaped (s .room a ha) refl q (below q h) na
+  session-other q h na nb = away q h nb ∙ node-other t s a (m .hereA) (sideA t a b ca cb o) sideA-shaped q h na
 
--- Write and purge put one node
-module _ (t : List ℕ) (s : Sound t) (p : ℕ) (hp : p < count t) (x : Node) (fits : Shaped (count t) x) where
-  low : (q : ℕ) → q < count t → q < nodesMost
-  low q h = let g = s .high in omega arith
+-- what a write and a purge leave fits the table
+pub write-shaped : (t : List ℕ) (p c b v : ℕ) → MayWrite t p c → Shaped (count t) (wrote p c b v (node t p))
+write-shaped t p c b v m = wrote-shaped (count t) (node t p) (node-shaped t (m .isSound) p (m .here)) p c b v (m .room)
 
-  pub one-same : node (putNode p x t) p ≡ x
-  one-same = node-same t (s .long) (count t) (s .high) p (low p hp) x fits (s .room p hp) refl
-
-  pub one-other : (q : ℕ) → q < count t → (q ≡ p → ⊥) → node (putNode p x t) q ≡ node t q
-  one-other q h other = node-other t (s .long) (count t) (s .high) p (low p hp) x fits (s .room p hp) refl q (low q h) other
-
-  pub one-count : count (putNode p x t) ≡ count t
-  one-count = put-count t (s .long) (count t) (s .high) p (low p hp) x fits (s .room p hp)
-
--- the facts of an accepted action, by its kind
-pub write-facts : (t : List ℕ) (p c b v : ℕ) → Accepted t (Write p c b v) → (p < count t) × (own p (node t p) < c) × (length (node t p .log) < logMost)
-unfolding nodeAbsent clockBack noRoom
-write-facts t p c b v k =
-    (leb-false (count t) p (k .present), leb-false c (own p (node t p)) (k .clock), leb-false logMost (length (node t p .log)) (k .room))
-
-pub purge-facts : (t : List ℕ) (p : ℕ) → Accepted t (Purge p) → p < count t
-unfolding nodeAbsent
-purge-facts t p k = leb-false (count t) p (k .present)
-
-pub session-facts :
-    (t : List ℕ) (a b ca cb o : ℕ) → Accepted t (Session a b ca cb o) →
-    (a < count t) × (b < count t) × (a ≡ b → ⊥) × (own a (node t a) ≤ ca) × (own b (node t b) ≤ cb) × (o ≤ 3)
-unfolding nodeAbsent nodeTwice clockBack outcomeAbove
-session-facts t a b ca cb o k = (
-  leb-false (count t) a (or-left (leb (count t) a) (leb (count t) b) (k .present)),
-  leb-false (count t) b (or-right (leb (count t) a) (leb (count t) b) (k .present)),
-  eqb-false a b (k .apart),
-  ltb-false ca (own a (node t a)) (or-left (ltb ca (own a (node t a))) (ltb cb (own b (node t b))) (k .clock)),
-  ltb-false cb (own b (node t b)) (or-right (ltb ca (own a (node t a))) (ltb cb (own b (node t b))) (k .clock)),
-  ltb-false 3 o (k .outcome),
-)
+pub purge-shaped : (t : List ℕ) (p : ℕ) → MayPurge t p → Shaped (count t) (purged (limit t p) (node t p))
+purge-shaped t p m = purged-shaped (count t) (node t p) (node-shaped t (m .isSound) p (m .here)) (limit t p)
 
 -- a sound table stays sound, with its count, under every accepted action
-pub acted-sound : (t : List ℕ) (x : Action) → verdictOf x ≤ 255 → Accepted t x → Sound (acted t x)
+pub acted-sound : (t : List ℕ) (x : Action) → verdictOf x ≤ 255 → refusal t x ≡ 0 → Sound (acted t x)
 unfolding acted
 acted-sound t (Write p c b v) hv k =
-    let f = write-facts t p c b v k in
-    let s = k .isSound in
-    sound-put t s p (f .0) (wrote p c b v (node t p)) (wrote-shaped (count t) (node t p) (node-shaped t s p (f .0)) p c b v (f .2))
-    (wrote-right (count t) (node t p) p c b v (f .0) hv (s .right p (f .0)))
-acted-sound t (Session a b ca cb o) hv k =
-    let f = session-facts t a b ca cb o k in
-    session-sound t (k .isSound) a b ca cb o (f .0) (f .1) (f .2) (k .room)
+    let m = may-write t p c b v k in
+    let s = m .isSound in
+    sound-put t s p (m .here) (wrote p c b v (node t p)) (write-shaped t p c b v m)
+    (wrote-right (count t) (node t p) p c b v (m .here) hv (s .right p (m .here)))
+acted-sound t (Session a b ca cb o) hv k = session-sound t a b ca cb o (may-meet t a b ca cb o k)
 acted-sound t (Purge p) hv k =
-    let f = purge-facts t p k in
-    let s = k .isSound in
-    sound-put t s p f (purged (limit t p) (node t p)) (purged-shaped (count t) (node t p) (node-shaped t s p f) (limit t p)) (purged-right (count t) (limit t p) (node t p) (s .right p f))
+    let m = may-purge t p k in
+    let s = m .isSound in
+    sound-put t s p (m .here) (purged (limit t p) (node t p)) (purge-shaped t p m) (purged-right (count t) (limit t p) (node t p) (s .right p (m .here)))
 
-pub acted-count : (t : List ℕ) (x : Action) → Accepted t x → count (acted t x) ≡ count t
+pub acted-count : (t : List ℕ) (x : Action) → refusal t x ≡ 0 → count (acted t x) ≡ count t
 unfolding acted
 acted-count t (Write p c b v) k =
-    let f = write-facts t p c b v k in
-    one-count t (k .isSound) p (f .0) (wrote p c b v (node t p)) (wrote-shaped (count t) (node t p) (node-shaped t (k .isSound) p (f .0)) p c b v (f .2))
-acted-count t (Session a b ca cb o) k =
-    let f = session-facts t a b ca cb o k in
-    session-count t (k .isSound) a b ca cb o (f .0) (f .1) (f .2) (k .room)
+    let m = may-write t p c b v k in
+    put-count t (m .isSound) p (m .here) (wrote p c b v (node t p)) (write-shaped t p c b v m)
+acted-count t (Session a b ca cb o) k = session-count t a b ca cb o (may-meet t a b ca cb o k)
 acted-count t (Purge p) k =
-    let f = purge-facts t p k in
-    one-count t (k .isSound) p f (purged (limit t p) (node t p)) (purged-shaped (count t) (node t p) (node-shaped t (k .isSound) p f) (limit t p))
+    let m = may-purge t p k in
+    put-count t (m .isSound) p (m .here) (purged (limit t p) (node t p)) (purge-shaped t p m)
 
 -- and under every step at all
 after-sound-at : (t : List ℕ) (x : Action) → verdictOf x ≤ 255 → Sound t → (k : ℕ) → refusal t x ≡ k → Sound (after t x)
-after-sound-at t x hv s zero h = rw (after-accepted t x h) (acted-sound t x hv (accepted t x h))
+after-sound-at t x hv s zero h = rw (after-accepted t x h) (acted-sound t x hv h)
 after-sound-at t x hv s (suc k) h = rw (after-refused t x k h) s
 
 pub after-sound : (t : List ℕ) (x : Action) → verdictOf x ≤ 255 → Sound t → Sound (after t x)
 after-sound t x hv s = after-sound-at t x hv s (refusal t x) refl
 
 after-count-at : (t : List ℕ) (x : Action) (k : ℕ) → refusal t x ≡ k → count (after t x) ≡ count t
-after-count-at t x zero h = ap count (after-accepted t x h) ∙ acted-count t x (accepted t x h)
+after-count-at t x zero h = ap count (after-accepted t x h) ∙ acted-count t x h
 after-count-at t x (suc k) h = ap count (after-refused t x k h)
 
 pub after-count : (t : List ℕ) (x : Action) → count (after t x) ≡ count t
@@ -320,29 +362,118 @@ pub accept : (t : List ℕ) (x : Action) → refusal t x ≡ 0 → (reported t x
 unfolding reply after
 accept t x h = (rw h, rw h)
 
--- The refusals of a sound table, by the kind of action
-pub refusal-sound :
-    (t : List ℕ) → Sound t → (x : Action) →
-    refusal t x ≡ given (outcomeAbove x) 2 (given (nodeAbsent (count t) x) 3 (given (nodeTwice x) 4 (given (clockBack t x) 5 (given (noRoom t x) 6 0))))
-unfolding refusal
-refusal-sound t s x = rw (facts-sound t s)
+-- The refusals of a sound table, each by the tests that were passed before it
+module _ (t : List ℕ) (s : Sound t) (p c b v : ℕ) where
+  pub write-is-3 : count t ≤ p → refusal t (Write p c b v) ≡ 3
+  unfolding refusal refusals first
+  write-is-3 h = rw (facts-sound t s, le-leb (count t) p h)
 
-pub write-refusal :
-    (t : List ℕ) → Sound t → (p c b v : ℕ) →
-    refusal t (Write p c b v) ≡ given (leb (count t) p) 3 (given (leb c (own p (node t p))) 5 (given (leb logMost (length (node t p .log))) 6 0))
-unfolding outcomeAbove nodeAbsent nodeTwice clockBack noRoom
-write-refusal t s p c b v = refusal-sound t s (Write p c b v)
+  pub write-is-5 : p < count t → c ≤ own p (node t p) → refusal t (Write p c b v) ≡ 5
+  unfolding refusal refusals first
+  write-is-5 h g = rw (facts-sound t s, lt-leb (count t) p h, le-leb c (own p (node t p)) g)
 
-pub purge-refusal : (t : List ℕ) → Sound t → (p : ℕ) → refusal t (Purge p) ≡ given (leb (count t) p) 3 0
-unfolding outcomeAbove nodeAbsent nodeTwice clockBack noRoom
-purge-refusal t s p = refusal-sound t s (Purge p)
+  pub write-is-6 : p < count t → own p (node t p) < c → logMost ≤ length (node t p .log) → refusal t (Write p c b v) ≡ 6
+  unfolding refusal refusals first
+  write-is-6 h g f = rw (facts-sound t s, lt-leb (count t) p h, lt-leb c (own p (node t p)) g, le-leb logMost (length (node t p .log)) f)
+
+  pub write-is-0 : p < count t → own p (node t p) < c → length (node t p .log) < logMost → refusal t (Write p c b v) ≡ 0
+  unfolding refusal refusals first
+  write-is-0 h g f = rw (facts-sound t s, lt-leb (count t) p h, lt-leb c (own p (node t p)) g, lt-leb logMost (length (node t p .log)) f)
+
+module _ (t : List ℕ) (s : Sound t) (p : ℕ) where
+  pub purge-is-3 : count t ≤ p → refusal t (Purge p) ≡ 3
+  unfolding refusal refusals first
+  purge-is-3 h = rw (facts-sound t s, le-leb (count t) p h)
+
+  pub purge-is-0 : p < count t → refusal t (Purge p) ≡ 0
+  unfolding refusal refusals first
+  purge-is-0 h = rw (facts-sound t s, lt-leb (count t) p h)
+
+module _ (t : List ℕ) (s : Sound t) (a b ca cb o : ℕ) where
+  pub session-is-2 : 3 < o → refusal t (Session a b ca cb o) ≡ 2
+  unfolding refusal refusals first
+  session-is-2 h = rw (facts-sound t s, lt-ltb 3 o h)
+
+  pub session-is-3-a : o ≤ 3 → count t ≤ a → refusal t (Session a b ca cb o) ≡ 3
+  unfolding refusal refusals first
+  session-is-3-a ho h = rw (facts-sound t s, le-ltb 3 o ho, le-leb (count t) a h)
+
+  pub session-is-3-b : o ≤ 3 → count t ≤ b → refusal t (Session a b ca cb o) ≡ 3
+  unfolding refusal refusals first
+  session-is-3-b ho h = rw (facts-sound t s, le-ltb 3 o ho, le-leb (count t) b h, or-true (leb (count t) a))
+
+  pub session-is-4 : o ≤ 3 → a < count t → b < count t → a ≡ b → refusal t (Session a b ca cb o) ≡ 4
+  unfolding refusal refusals first
+  session-is-4 ho ha hb e = rw (facts-sound t s, le-ltb 3 o ho, lt-leb (count t) a ha, lt-leb (count t) b hb, eq-eqb a b e)
+
+  -- between two different nodes
+  module _ (ho : o ≤ 3) (ha : a < count t) (hb : b < count t) (apart : a ≡ b → ⊥) where
+    pub session-is-5-a : ca < own a (node t a) → refusal t (Session a b ca cb o) ≡ 5
+    unfolding refusal refusals first
+    session-is-5-a h =
+        rw
+        (facts-sound t s, le-ltb 3 o ho, lt-leb (count t) a ha, lt-leb (count t) b hb, ne-eqb a b apart, lt-ltb ca (own a (node t a)) h)
+
+    pub session-is-5-b : cb < own b (node t b) → refusal t (Session a b ca cb o) ≡ 5
+    unfolding refusal refusals first
+    session-is-5-b h =
+        rw (
+          facts-sound t s,
+          le-ltb 3 o ho,
+          lt-leb (count t) a ha,
+          lt-leb (count t) b hb,
+          ne-eqb a b apart,
+          lt-ltb cb (own b (node t b)) h,
+          or-true (ltb ca (own a (node t a))),
+        )
+
+    -- where no clock went back
+    module _ (ga : own a (node t a) ≤ ca) (gb : own b (node t b) ≤ cb) where
+      full : Bool
+      full =
+          overfull (finishesA o) (opened a ca (node t a)) (opened b cb (node t b)) ||
+          overfull (finishesB o) (opened b cb (node t b)) (opened a ca (node t a))
+
+      session-room : (k : ℕ) → cond full 6 0 ≡ k → refusal t (Session a b ca cb o) ≡ k
+      unfolding refusal refusals first full
+      session-room k h =
+          rw (
+            facts-sound t s,
+            le-ltb 3 o ho,
+            lt-leb (count t) a ha,
+            lt-leb (count t) b hb,
+            ne-eqb a b apart,
+            le-ltb ca (own a (node t a)) ga,
+            le-ltb cb (own b (node t b)) gb,
+          )
+          h
+
+      pub session-is-6 :
+          (overfull (finishesA o) (opened a ca (node t a)) (opened b cb (node t b)) ||
+          overfull (finishesB o) (opened b cb (node t b)) (opened a ca (node t a))) ≡
+          true →
+          refusal t (Session a b ca cb o) ≡ 6
+      unfolding full
+      session-is-6 h = session-room 6 (rw h)
+
+      pub session-is-0 :
+          (overfull (finishesA o) (opened a ca (node t a)) (opened b cb (node t b)) ||
+          overfull (finishesB o) (opened b cb (node t b)) (opened a ca (node t a))) ≡
+          false →
+          refusal t (Session a b ca cb o) ≡ 0
+      unfolding full
+      session-is-0 h = session-room 0 (rw h)
 
 pub unsound-refusal : (t : List ℕ) (x : Action) → sound t ≡ false → refusal t x ≡ 1
-unfolding refusal
-unsound-refusal t x h = rw h
+unfolding refusal refusals first
+unsound-refusal t (Write p c b v) h = rw h
+unsound-refusal t (Session a b ca cb o) h = rw h
+unsound-refusal t (Purge p) h = rw h
 
 -- A log that has grown still begins with what it held
-pub log-begins : (u : List ℕ) (q k : ℕ) (l more : List Record) → node u q .log ≡ l ++ more → length l ≡ k → records k (part (logAt q) (4 * logMost) u) ≡ l
+pub log-begins :
+    (u : List ℕ) (q k : ℕ) (l more : List Record) → node u q .log ≡ l ++ more → length l ≡ k →
+    records k (part (logAt q) (4 * logMost) u) ≡ l
 unfolding node
 log-begins u q k l more e h =
     let a = ap length e ∙ length-append l more in
@@ -365,9 +496,6 @@ module _ (t : List ℕ) (s : Sound t) (p q : ℕ) (hp : p < count t) (hq : q < c
   fits : Shaped (count t) (ended f x y)
   fits = ended-shaped (count t) x fx y fy f room
 
-  low′ : p < nodesMost
-  low′ = let h = s .high in omega arith
-
   abbrev pub once : List ℕ
   once = putNode p (ended f x y) t
 
@@ -377,25 +505,16 @@ module _ (t : List ℕ) (s : Sound t) (p q : ℕ) (hp : p < count t) (hq : q < c
       (ended-right (count t) x y f (ap (all (recordSound (count t))) lx ∙ s .right p hp) (ap (all (recordSound (count t))) ly ∙ s .right q hq))
 
   pub once-count : count once ≡ count t
-  once-count = put-count t (s .long) (count t) (s .high) p low′ (ended f x y) fits (s .room p hp)
-
-  pub once-held : held once q ≡ held t q
-  once-held = put-held-other t (s .long) (count t) (s .high) p low′ (ended f x y) fits (s .room p hp) q (let h = s .high in omega arith) other
+  once-count = put-count t s p hp (ended f x y) fits
 
   pub once-log : node once q .log ≡ node t q .log
-  once-log =
-      ap (λ (z : Node). z .log) (node-other t (s .long) (count t) (s .high) p low′ (ended f x y) fits (s .room p hp) refl q (let h = s .high in omega arith) other)
+  once-log = ap (λ (z : Node). z .log) (node-other t s p hp (ended f x y) fits q hq other)
+
+  pub once-held : held once q ≡ held t q
+  once-held = held-log once q ∙ ap length once-log ∙ sym (held-log t q)
 
   pub once-began : (k : ℕ) → k ≡ held t p → records k (part (logAt p) (4 * logMost) once) ≡ node t p .log
   once-began k e =
       log-begins once p k (node t p .log) (taken f x y)
-      (ap (λ (z : Node). z .log) (node-same t (s .long) (count t) (s .high) p low′ (ended f x y) fits (s .room p hp) refl) ∙ ended-log f x y ∙ ap (λ (l : List Record). l ++ taken f x y) lx)
+      (ap (λ (z : Node). z .log) (node-same t s p hp (ended f x y) fits) ∙ ended-log f x y ∙ ap (λ (l : List Record). l ++ taken f x y) lx)
       (sym (held-log t p) ∙ sym e)
-
--- The refusals of a session on a sound table
-pub session-refusal :
-    (t : List ℕ) → Sound t → (a b ca cb o : ℕ) →
-    refusal t (Session a b ca cb o) ≡
-    given (ltb 3 o) 2 (given (leb (count t) a || leb (count t) b) 3 (given (eqb a b) 4 (given (clockBack t (Session a b ca cb o)) 5 (given (noRoom t (Session a b ca cb o)) 6 0))))
-unfolding outcomeAbove nodeAbsent nodeTwice
-session-refusal t s a b ca cb o = refusal-sound t s (Session a b ca cb o)

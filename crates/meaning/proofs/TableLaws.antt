@@ -1,37 +1,81 @@
 -- Laws of a table and its nodes: a node that was put is read again, another is as it was, and soundness is kept.
 use mathlib.Core.Path.{_≡_, refl, sym, ap, _∙_}
-use mathlib.Core.Bool.{Bool, true, _&&_}
-use mathlib.Core.List.{List, [], _∷_, _++_}
+use mathlib.Core.Bool.{Bool, true, false, not, _&&_, cond}
+use mathlib.Core.List.{List, [], _∷_, _++_, List·Memᴰ, List·Memᴰ·head, List·Memᴰ·tail}
 use Prim.Native.Nat.{ℕ, _+_, _-_, _*_, _≤_, _<_}
 use native.Mathlib.Decide.{ℕ-discrete}
 use native.Mathlib.Omega.{arith}
-use borrow.Author.Tests.{leb-true, ltb-true, eqb-true, le-leb, eq-eqb}
+use borrow.Author.Tests.{leb-true, ltb-true, eqb-true, le-leb, eq-eqb, ne-eqb}
 use lib.ListN.{length, getD, replicate, length-append, length-replicate, List·getD-append}
 use lib.Dec.{leb, ltb, eqb}
 use Rattle.meaning.specs.declared.Record.{Record}
-use Rattle.meaning.specs.Rows.{every, records, words}
-use Rattle.meaning.specs.Table.{Node, tableWords, nodesMost, logMost, countAt, summaryAt, acksAt, heldAt, logAt, part, place, count, held, node, putNode, countRight, recordSound, logSound, sound}
-use Rattle.meaning.proofs.PlaceLaws.{length-place, getD-away, getD-within, getD-part, length-part, part-same, part-away}
-use Rattle.meaning.proofs.RowLaws.{all, and-left, and-right, and-both, every-records, every-at, every-all, length-records, length-words, records-agree, records-words}
-
--- A sound table, as facts. `sound` is the test that code returns and contracts cite.
-pub record Sound (t : List ℕ) : Type 0 where
-  pub long : length t ≡ tableWords
-  pub low : 2 ≤ count t
-  pub high : count t ≤ nodesMost
-  pub room : (p : ℕ) → p < count t → held t p ≤ logMost
-  pub right : (p : ℕ) → p < count t → all (recordSound (count t)) (node t p .log) ≡ true
+use Rattle.meaning.specs.Rows.{every, all, records, words}
+use Rattle.meaning.specs.Refusals.{first}
+use Rattle.meaning.specs.Table.{
+  Node,
+  tableWords,
+  nodesMost,
+  logMost,
+  countAt,
+  summaryAt,
+  acksAt,
+  heldAt,
+  logAt,
+  part,
+  count,
+  held,
+  node,
+  Piece,
+  piece,
+  logWords,
+  pieces,
+  putNode,
+  countRight,
+  freshRefusal,
+  recordSound,
+  logSound,
+  sound,
+  Sound,
+  Shaped,
+}
+use Rattle.meaning.proofs.PlaceLaws.{getD-part, length-part}
+use Rattle.meaning.proofs.PieceLaws.{
+  Region,
+  region,
+  Apart,
+  Apart·nil,
+  Apart·cons,
+  Inside,
+  Inside·nil,
+  Inside·cons,
+  Disjoint,
+  Disjoint·nil,
+  Disjoint·cons,
+  Fills,
+  Fills·nil,
+  Fills·cons,
+  length-lay,
+  lay-away,
+  lay-word,
+  lay-back,
+}
+use Rattle.meaning.proofs.RowLaws.{
+  and-left,
+  and-right,
+  and-both,
+  every-records,
+  every-at,
+  every-all,
+  length-records,
+  length-words,
+  records-agree,
+  records-words,
+}
 
 -- a right record's origin is a node
 pub origin-below : (n : ℕ) (r : Record) → recordSound n r ≡ true → r .origin < n
 unfolding recordSound
 origin-below n r h = ltb-true (r .origin) n (and-left (ltb (r .origin) n) (leb (r .verdict) 255) h)
-
--- A node that fits a table of n nodes
-pub record Shaped (n : ℕ) (x : Node) : Type 0 where
-  pub summaryLong : length (x .summary) ≡ n
-  pub acksLong : length (x .acks) ≡ n
-  pub logShort : length (x .log) ≤ logMost
 
 pub log-length : (t : List ℕ) (p : ℕ) → length (node t p .log) ≡ held t p
 unfolding node
@@ -74,6 +118,24 @@ facts-sound t s =
     logSound-is t p ∙
     and-both (leb (held t p) logMost) (all (recordSound (count t)) (node t p .log)) (le-leb (held t p) logMost (s .room p q)) (s .right p q))))
 
+-- The refusals of a fresh table's making
+module _ (t : List ℕ) (n : ℕ) where
+  pub fresh-count-wrong : countRight n ≡ false → freshRefusal t n ≡ 1
+  unfolding freshRefusal first
+  fresh-count-wrong h = rw h
+
+  pub fresh-length-wrong : (length t ≡ tableWords → ⊥) → freshRefusal t n ≡ 1
+  unfolding freshRefusal first
+  fresh-length-wrong h = rw (ne-eqb (length t) tableWords h) (go (countRight n) 1)
+    where
+      go : (b : Bool) (k : ℕ) → cond (not b) k k ≡ k
+      go true k = refl
+      go false k = refl
+
+  pub fresh-right : countRight n ≡ true → length t ≡ tableWords → freshRefusal t n ≡ 0
+  unfolding freshRefusal first
+  fresh-right c l = rw (c, eq-eqb (length t) tableWords l)
+
 pub node-shaped : (t : List ℕ) → Sound t → (p : ℕ) → p < count t → Shaped (count t) (node t p)
 unfolding node
 node-shaped t s p h =
@@ -88,223 +150,188 @@ node-shaped t s p h =
           omega arith;
     }
 
--- The words of a node's log as `putNode` writes them
-abbrev pub logWords : ℕ → Node → List ℕ → List ℕ
-logWords p x t = words (x .log) ++ replicate (4 * (held t p - length (x .log))) 0
-
 length-logWords : (p : ℕ) (x : Node) (t : List ℕ) → length (x .log) ≤ logMost → held t p ≤ logMost → length (logWords p x t) ≤ 4 * logMost
 length-logWords p x t a b =
     let e = length-append (words (x .log)) (replicate (4 * (held t p - length (x .log))) 0) in
     let f = length-words (x .log) in
-    let g = length-replicate (4 * (held t p - length (x .log))) (zeroWord) in
+    let g = length-replicate (4 * (held t p - length (x .log))) zeroWord in
     omega arith
   where
     zeroWord : ℕ
     zeroWord = 0
 
--- Putting a node, place by place. `put` below stands for a table of the right length, a node p below 16 and a node that fits.
-module _ (t : List ℕ) (long : length t ≡ tableWords) (n : ℕ) (high : n ≤ nodesMost) (p : ℕ) (below : p < nodesMost) (x : Node) (fits : Shaped n x) (room : held t p ≤ logMost) where
-  put₁ : List ℕ
-  put₁ = place (logAt p) (logWords p x t) t
+-- Where the pieces of node p of n stand, and how many words each has at most
+abbrev summaryOf : ℕ → ℕ → Region
+summaryOf n p = region (summaryAt p) n
 
-  put₂ : List ℕ
-  put₂ = place (heldAt p) (length (x .log) ∷ []) put₁
+abbrev acksOf : ℕ → ℕ → Region
+acksOf n p = region (acksAt p) n
 
-  put₃ : List ℕ
-  put₃ = place (acksAt p) (x .acks) put₂
+abbrev heldOf : ℕ → Region
+heldOf p = region (heldAt p) 1
 
-  fit₁ : logAt p + length (logWords p x t) ≤ length t
-  fit₁ =
-      let l = length-logWords p x t (fits .logShort) room in
-      omega arith
+abbrev logOf : ℕ → Region
+logOf p = region (logAt p) (4 * logMost)
 
-  long₁ : length put₁ ≡ tableWords
-  unfolding put₁
-  long₁ = length-place (logAt p) (logWords p x t) t fit₁ ∙ long
+abbrev pub regions : ℕ → ℕ → List Region
+regions n p = summaryOf n p ∷ acksOf n p ∷ heldOf p ∷ logOf p ∷ []
 
-  fit₂ : heldAt p + 1 ≤ length put₁
-  fit₂ =
-      let l = long₁ in
-      omega arith
+-- each of them is away from what is away from all four
+pub apart-node :
+    (n p a k : ℕ) →
+    (a < summaryAt p + n → summaryAt p < a + k → ⊥) →
+    (a < acksAt p + n → acksAt p < a + k → ⊥) →
+    (a < heldAt p + 1 → heldAt p < a + k → ⊥) →
+    (a < logAt p + 4 * logMost → logAt p < a + k → ⊥) →
+    Apart a k (regions n p)
+apart-node n p a k h₁ h₂ h₃ h₄ = Apart·cons h₁ (Apart·cons h₂ (Apart·cons h₃ (Apart·cons h₄ Apart·nil)))
 
-  long₂ : length put₂ ≡ tableWords
-  unfolding put₂
-  long₂ = length-place (heldAt p) (length (x .log) ∷ []) put₁ fit₂ ∙ long₁
+inside-node : (n p m : ℕ) → n ≤ nodesMost → p < nodesMost → m ≡ tableWords → Inside m (regions n p)
+inside-node n p m hn hp e =
+    Inside·cons {r = summaryOf n p} (omega arith)
+    (Inside·cons {r = acksOf n p} (omega arith)
+    (Inside·cons {r = heldOf p} (omega arith) (Inside·cons {r = logOf p} (omega arith) Inside·nil)))
 
-  fit₃ : acksAt p + length (x .acks) ≤ length put₂
-  fit₃ =
-      let l = long₂ in
-      let e = fits .acksLong in
-      omega arith
+disjoint-node : (n p : ℕ) → n ≤ nodesMost → p < nodesMost → Disjoint (regions n p)
+disjoint-node n p hn hp =
+    Disjoint·cons {r = summaryOf n p}
+    (Apart·cons {r = acksOf n p} (omega arith) (Apart·cons {r = heldOf p} (omega arith) (Apart·cons {r = logOf p} (omega arith) Apart·nil)))
+    (Disjoint·cons {r = acksOf n p} (Apart·cons {r = heldOf p} (omega arith) (Apart·cons {r = logOf p} (omega arith) Apart·nil))
+    (Disjoint·cons {r = heldOf p} (Apart·cons {r = logOf p} (omega arith) Apart·nil)
+    (Disjoint·cons {r = logOf p} Apart·nil Disjoint·nil)))
 
-  long₃ : length put₃ ≡ tableWords
-  unfolding put₃
-  long₃ = length-place (acksAt p) (x .acks) put₂ fit₃ ∙ long₂
+-- A node put into a sound table, one that fits it
+module _ (t : List ℕ) (s : Sound t) (p : ℕ) (h : p < count t) (x : Node) (fits : Shaped (count t) x) where
+  here : p < nodesMost
+  here = omega (arith, s .high)
 
-  fit₄ : summaryAt p + length (x .summary) ≤ length put₃
-  fit₄ =
-      let l = long₃ in
-      let e = fits .summaryLong in
-      omega arith
+  fills : Fills (pieces p x t) (regions (count t) p)
+  unfolding pieces
+  fills =
+      Fills·cons {x = piece (summaryAt p) (x .summary)} {r = summaryOf (count t) p} refl (omega (arith, fits .summaryLong))
+      (Fills·cons {x = piece (acksAt p) (x .acks)} {r = acksOf (count t) p} refl (omega (arith, fits .acksLong))
+      (Fills·cons {x = piece (heldAt p) (length (x .log) ∷ [])} {r = heldOf p} refl (omega arith)
+      (Fills·cons {x = piece (logAt p) (logWords p x t)} {r = logOf p} refl (length-logWords p x t (fits .logShort) (s .room p h)) Fills·nil)))
 
-  put-is : putNode p x t ≡ place (summaryAt p) (x .summary) put₃
-  unfolding putNode put₃ put₂ put₁
-  put-is = refl
+  inside : Inside (length t) (regions (count t) p)
+  inside = inside-node (count t) p (length t) (s .high) here (s .long)
 
   pub put-long : length (putNode p x t) ≡ tableWords
-  put-long = rw put-is (length-place (summaryAt p) (x .summary) put₃ fit₄ ∙ long₃)
+  unfolding putNode
+  put-long = length-lay (pieces p x t) (regions (count t) p) t fills inside ∙ s .long
 
-  -- a part that meets none of the four is as it was
-  pub put-part-away :
-      (a k : ℕ) → a + k ≤ tableWords →
-      (a < summaryAt p + n → summaryAt p < a + k → ⊥) →
-      (a < acksAt p + n → acksAt p < a + k → ⊥) →
-      (a < heldAt p + 1 → heldAt p < a + k → ⊥) →
-      (a < logAt p + 4 * logMost → logAt p < a + k → ⊥) →
-      part a k (putNode p x t) ≡ part a k t
-  unfolding put₃ put₂ put₁
-  put-part-away a k within h₄ h₃ h₂ h₁ =
-      let e₄ = fits .summaryLong in
-      let e₃ = fits .acksLong in
-      let e₁ = length-logWords p x t (fits .logShort) room in
-      rw put-is
-      (part-away a k (summaryAt p) (x .summary) put₃ fit₄ (let l = long₃ in omega arith) (λ u v. h₄ (omega arith) v) ∙
-      part-away a k (acksAt p) (x .acks) put₂ fit₃ (let l = long₂ in omega arith) (λ u v. h₃ (omega arith) v) ∙
-      part-away a k (heldAt p) (length (x .log) ∷ []) put₁ fit₂ (let l = long₁ in omega arith) h₂ ∙
-      part-away a k (logAt p) (logWords p x t) t fit₁ (omega arith) (λ u v. h₁ (omega arith) v))
+  -- a part, or a word, that meets no piece of the node is as it was
+  pub put-part-away : (a k : ℕ) → a + k ≤ tableWords → Apart a k (regions (count t) p) → part a k (putNode p x t) ≡ part a k t
+  unfolding putNode
+  put-part-away a k within apart = lay-away (pieces p x t) (regions (count t) p) t fills inside a k (omega (arith, s .long)) apart
 
-  -- a word that meets none of the four is as it was
-  pub put-word-away :
-      (i : ℕ) →
-      (i < summaryAt p + n → summaryAt p ≤ i → ⊥) →
-      (i < acksAt p + n → acksAt p ≤ i → ⊥) →
-      (i < heldAt p + 1 → heldAt p ≤ i → ⊥) →
-      (i < logAt p + 4 * logMost → logAt p ≤ i → ⊥) →
-      getD (putNode p x t) i 0 ≡ getD t i 0
-  unfolding put₃ put₂ put₁
-  put-word-away i h₄ h₃ h₂ h₁ =
-      let e₄ = fits .summaryLong in
-      let e₃ = fits .acksLong in
-      let e₁ = length-logWords p x t (fits .logShort) room in
-      rw put-is
-      (getD-away i (summaryAt p) (x .summary) put₃ fit₄ (λ u v. h₄ (omega arith) v) ∙
-      getD-away i (acksAt p) (x .acks) put₂ fit₃ (λ u v. h₃ (omega arith) v) ∙
-      getD-away i (heldAt p) (length (x .log) ∷ []) put₁ fit₂ h₂ ∙
-      getD-away i (logAt p) (logWords p x t) t fit₁ (λ u v. h₁ (omega arith) v))
+  pub put-word-away : (i : ℕ) → Apart i 1 (regions (count t) p) → getD (putNode p x t) i 0 ≡ getD t i 0
+  unfolding putNode
+  put-word-away i apart = lay-word (pieces p x t) (regions (count t) p) t fills inside i apart
+
+  -- a piece of the node is read again
+  pub put-back : (y : Piece) → List·Memᴰ y (pieces p x t) → part (y .at) (length (y .new)) (putNode p x t) ≡ y .new
+  unfolding putNode
+  put-back y m = lay-back (pieces p x t) (regions (count t) p) t fills inside (disjoint-node (count t) p (s .high) here) y m
 
   pub put-count : count (putNode p x t) ≡ count t
   unfolding count
-  put-count = put-word-away countAt (omega arith) (omega arith) (omega arith) (omega arith)
-
-  pub put-held-other : (q : ℕ) → q < nodesMost → (q ≡ p → ⊥) → held (putNode p x t) q ≡ held t q
-  unfolding held
-  put-held-other q h other =
-      put-word-away (heldAt q) (omega arith) (omega arith) (λ u v. other (omega arith)) (omega arith)
+  put-count = put-word-away countAt (apart-node (count t) p countAt 1 (omega arith) (omega arith) (omega arith) (omega arith))
 
   pub put-held : held (putNode p x t) p ≡ length (x .log)
-  unfolding held put₃ put₂
+  unfolding held pieces
   put-held =
-      let e₄ = fits .summaryLong in
-      let e₃ = fits .acksLong in
-      rw put-is
-      (getD-away (heldAt p) (summaryAt p) (x .summary) put₃ fit₄ (λ u v. omega arith) ∙
-      getD-away (heldAt p) (acksAt p) (x .acks) put₂ fit₃ (λ u v. omega arith) ∙
-      getD-within (heldAt p) (length (x .log) ∷ []) put₁ fit₂ 0 (heldAt p) (omega arith) (omega arith))
+      sym (getD-part (heldAt p) 1 (putNode p x t) 0 (heldAt p) (omega arith) (omega arith)) ∙
+      ap (λ (l : List ℕ). getD l 0 0) (put-back (piece (heldAt p) (length (x .log) ∷ [])) (List·Memᴰ·tail (List·Memᴰ·tail (List·Memᴰ·head refl))))
+
+  put-log : part (logAt p) (length (logWords p x t)) (putNode p x t) ≡ logWords p x t
+  unfolding pieces
+  put-log = put-back (piece (logAt p) (logWords p x t)) (List·Memᴰ·tail (List·Memᴰ·tail (List·Memᴰ·tail (List·Memᴰ·head refl))))
+
+  put-records : (m : ℕ) → m < 4 * length (x .log) → getD (part (logAt p) (4 * logMost) (putNode p x t)) m 0 ≡ getD (words (x .log) ++ []) m 0
+  put-records m b =
+      let w = words (x .log) in
+      let z : List ℕ = replicate (4 * (held t p - length (x .log))) 0 in
+      let lw = length-words (x .log) in
+      let la = length-append w z in
+      let ls = fits .logShort in
+      getD-part (logAt p) (4 * logMost) (putNode p x t) m (logAt p + m) refl (omega arith) ∙
+      sym (getD-part (logAt p) (length (logWords p x t)) (putNode p x t) m (logAt p + m) refl (omega arith)) ∙
+      ap (λ (l : List ℕ). getD l m 0) put-log ∙
+      List·getD-append w z 0 m (omega arith) ∙
+      sym (List·getD-append w [] 0 m (omega arith))
 
   -- the node that was put is read again
-  pub node-same : count t ≡ n → node (putNode p x t) p ≡ x
-  unfolding node put₃ put₂ put₁
-  node-same c =
-      let e₄ = fits .summaryLong in
-      let e₃ = fits .acksLong in
-      let e₁ = length-logWords p x t (fits .logShort) room in
-      let s : part (summaryAt p) (count (putNode p x t)) (putNode p x t) ≡ x .summary =
-      rw put-is (part-same (summaryAt p) (x .summary) put₃ (count (place (summaryAt p) (x .summary) put₃)) (sym (ap count put-is) ∙ put-count ∙ c ∙ sym e₄) fit₄)
+  pub node-same : node (putNode p x t) p ≡ x
+  unfolding node pieces
+  node-same =
+      let e : part (summaryAt p) (count (putNode p x t)) (putNode p x t) ≡ x .summary =
+      ap (λ (m : ℕ). part (summaryAt p) m (putNode p x t)) (put-count ∙ sym (fits .summaryLong)) ∙
+      put-back (piece (summaryAt p) (x .summary)) (List·Memᴰ·head refl)
       in
       let k : part (acksAt p) (count (putNode p x t)) (putNode p x t) ≡ x .acks =
-      ap (λ (m : ℕ). part (acksAt p) m (putNode p x t)) (put-count ∙ c ∙ sym e₃) ∙
-      rw put-is
-      (part-away (acksAt p) (length (x .acks)) (summaryAt p) (x .summary) put₃ fit₄ (let l = long₃ in omega arith) (λ u v. omega arith) ∙
-      part-same (acksAt p) (x .acks) put₂ (length (x .acks)) refl fit₃)
+      ap (λ (m : ℕ). part (acksAt p) m (putNode p x t)) (put-count ∙ sym (fits .acksLong)) ∙
+      put-back (piece (acksAt p) (x .acks)) (List·Memᴰ·tail (List·Memᴰ·head refl))
       in
       let g : records (held (putNode p x t) p) (part (logAt p) (4 * logMost) (putNode p x t)) ≡ x .log =
       ap (λ (m : ℕ). records m (part (logAt p) (4 * logMost) (putNode p x t))) put-held ∙
-      records-agree (length (x .log)) (part (logAt p) (4 * logMost) (putNode p x t)) (words (x .log) ++ []) agree ∙
+      records-agree (length (x .log)) (part (logAt p) (4 * logMost) (putNode p x t)) (words (x .log) ++ []) put-records ∙
       records-words (x .log) []
       in
-      λ i. record { summary = s i; acks = k i; log = g i }
-    where
-      agree : (m : ℕ) → m < 4 * length (x .log) → getD (part (logAt p) (4 * logMost) (putNode p x t)) m 0 ≡ getD (words (x .log) ++ []) m 0
-      agree m h =
-          let e₄ = fits .summaryLong in
-          let e₃ = fits .acksLong in
-          let lw = length-words (x .log) in
-          let la = length-append (words (x .log)) (replicate (4 * (held t p - length (x .log))) 0) in
-          let ls = fits .logShort in
-          getD-part (logAt p) (4 * logMost) (putNode p x t) m (logAt p + m) refl (omega arith) ∙
-          rw put-is
-          (getD-away (logAt p + m) (summaryAt p) (x .summary) put₃ fit₄ (λ u v. omega arith) ∙
-          getD-away (logAt p + m) (acksAt p) (x .acks) put₂ fit₃ (λ u v. omega arith) ∙
-          getD-away (logAt p + m) (heldAt p) (length (x .log) ∷ []) put₁ fit₂ (λ u v. omega arith) ∙
-          getD-within (logAt p) (logWords p x t) t fit₁ m (logAt p + m) refl (omega arith) ∙
-          List·getD-append (words (x .log)) (replicate (4 * (held t p - length (x .log))) 0) 0 m (omega arith) ∙
-          sym (List·getD-append (words (x .log)) [] 0 m (omega arith)))
+      λ i. record { summary = e i; acks = k i; log = g i }
 
-  -- another node is as it was
-  pub node-other : n ≡ count t → (q : ℕ) → q < nodesMost → (q ≡ p → ⊥) → node (putNode p x t) q ≡ node t q
-  unfolding node
-  node-other c q h other =
-      let s : part (summaryAt q) (count (putNode p x t)) (putNode p x t) ≡ part (summaryAt q) (count t) t =
-      rw put-count
-      (put-part-away (summaryAt q) (count t) (omega arith) (λ u v. other (omega arith)) (λ u v. omega arith) (λ u v. omega arith) (λ u v. omega arith))
-      in
-      let k : part (acksAt q) (count (putNode p x t)) (putNode p x t) ≡ part (acksAt q) (count t) t =
-      rw put-count
-      (put-part-away (acksAt q) (count t) (omega arith) (λ u v. omega arith) (λ u v. other (omega arith)) (λ u v. omega arith) (λ u v. omega arith))
-      in
-      let g : records (held (putNode p x t) q) (part (logAt q) (4 * logMost) (putNode p x t)) ≡ records (held t q) (part (logAt q) (4 * logMost) t) =
-      rw (put-held-other q h other)
-      (ap (records (held t q))
-      (put-part-away (logAt q) (4 * logMost) (omega arith) (λ u v. omega arith) (λ u v. omega arith) (λ u v. omega arith) (λ u v. other (omega arith))))
-      in
-      λ i. record { summary = s i; acks = k i; log = g i }
+  -- another node's part k words from a on, given that it stands apart from each piece, and its held number
+  module _ (q : ℕ) (j : q < count t) (other : q ≡ p → ⊥) where
+    pub put-held-other : held (putNode p x t) q ≡ held t q
+    unfolding held
+    put-held-other =
+        let hi = s .high in
+        put-word-away (heldAt q)
+        (apart-node (count t) p (heldAt q) 1 (λ u v. omega arith) (λ u v. omega arith) (λ u v. other (omega arith)) (λ u v. omega arith))
+
+    -- another node is as it was
+    pub node-other : node (putNode p x t) q ≡ node t q
+    unfolding node
+    node-other =
+        let hi = s .high in
+        let e : part (summaryAt q) (count (putNode p x t)) (putNode p x t) ≡ part (summaryAt q) (count t) t =
+        rw put-count
+        (put-part-away (summaryAt q) (count t) (omega arith)
+        (apart-node (count t) p (summaryAt q) (count t) (λ u v. other (omega arith)) (λ u v. omega arith) (λ u v. omega arith) (λ u v. omega arith)))
+        in
+        let k : part (acksAt q) (count (putNode p x t)) (putNode p x t) ≡ part (acksAt q) (count t) t =
+        rw put-count
+        (put-part-away (acksAt q) (count t) (omega arith)
+        (apart-node (count t) p (acksAt q) (count t) (λ u v. omega arith) (λ u v. other (omega arith)) (λ u v. omega arith) (λ u v. omega arith)))
+        in
+        let g : records (held (putNode p x t) q) (part (logAt q) (4 * logMost) (putNode p x t)) ≡ records (held t q) (part (logAt q) (4 * logMost) t) =
+        rw put-held-other
+        (ap (records (held t q))
+        (put-part-away (logAt q) (4 * logMost) (omega arith)
+        (apart-node (count t) p (logAt q) (4 * logMost) (λ u v. omega arith) (λ u v. omega arith) (λ u v. omega arith) (λ u v. other (omega arith)))))
+        in
+        λ i. record { summary = e i; acks = k i; log = g i }
 
 -- a sound table stays sound when a node is put that fits it and whose records are right
 pub sound-put :
-    (t : List ℕ) → Sound t → (p : ℕ) → p < count t → (x : Node) → Shaped (count t) x → all (recordSound (count t)) (x .log) ≡ true → Sound (putNode p x t)
-sound-put t s p h x fits records =
+    (t : List ℕ) → Sound t → (p : ℕ) → p < count t → (x : Node) → Shaped (count t) x → all (recordSound (count t)) (x .log) ≡ true →
+    Sound (putNode p x t)
+sound-put t s p h x fits right =
     record {
-      long = put-long t l n hi p b x fits r;
+      long = put-long t s p h x fits;
       low = rw c (s .low);
-      high = rw c hi;
+      high = rw c (s .high);
       room = λ q g. roomAt q (rw c at g) (ℕ-discrete q p);
       right = λ q g. rw c (rightAt q (rw c at g) (ℕ-discrete q p));
     }
   where
-    l : length t ≡ tableWords
-    l = s .long
-
-    n : ℕ
-    n = count t
-
-    hi : count t ≤ nodesMost
-    hi = s .high
-
-    b : p < nodesMost
-    b = omega arith
-
-    r : held t p ≤ logMost
-    r = s .room p h
-
     c : count (putNode p x t) ≡ count t
-    c = put-count t l (count t) hi p b x fits r
+    c = put-count t s p h x fits
 
     roomAt : (q : ℕ) → q < count t → Dec (q ≡ p) → held (putNode p x t) q ≤ logMost
-    roomAt q g (yes e) =
-        let f = fits .logShort in
-        rw e (rw (put-held t l (count t) hi p b x fits r) f)
-    roomAt q g (no e) = rw (put-held-other t l (count t) hi p b x fits r q (omega arith) e) (s .room q g)
+    roomAt q g (yes e) = rw e (rw (put-held t s p h x fits) (fits .logShort))
+    roomAt q g (no e) = rw (put-held-other t s p h x fits q g e) (s .room q g)
 
     rightAt : (q : ℕ) → q < count t → Dec (q ≡ p) → all (recordSound (count t)) (node (putNode p x t) q .log) ≡ true
-    rightAt q g (yes e) = rw e (rw (node-same t l (count t) hi p b x fits r refl) records)
-    rightAt q g (no e) = rw (node-other t l (count t) hi p b x fits r refl q (omega arith) e) (s .right q g)
+    rightAt q g (yes e) = rw e (rw (node-same t s p h x fits) right)
+    rightAt q g (no e) = rw (node-other t s p h x fits q g e) (s .right q g)

@@ -12,10 +12,11 @@ use Rattle.meaning.specs.declared.Record.{Record}
 use Rattle.meaning.specs.declared.Class.the-variants.{NotRead, PageCache, PlatterGood, PlatterBad, Repaired, Reserved}
 use Rattle.meaning.specs.declared.Count.{Count}
 use Rattle.meaning.specs.declared.Count.the-variants.{Refused}
-use Rattle.meaning.specs.Rows.{given, every, recordAt, records}
+use Rattle.meaning.specs.Rows.{every, all, recordAt, records}
+use Rattle.meaning.specs.Refusals.{test, first}
 use Rattle.meaning.specs.Table.{logMost, logAt, part, count, held, node, sound, recordSound}
 use Rattle.meaning.specs.Verdicts.{classOf, countRefusal, verdictCount, nodeCount}
-use Rattle.meaning.proofs.RowLaws.{all, and-right, and-both, and-left, every-records, records-agree}
+use Rattle.meaning.proofs.RowLaws.{and-right, and-both, and-left, every-records, records-agree}
 use Rattle.meaning.proofs.TableLaws.{sound-facts}
 
 -- The class of a byte, found by its upper end where the lower ones were passed
@@ -46,17 +47,17 @@ class-6 v l = rw (lt-leb v 0x0f (omega arith), lt-leb v 0x1f (omega arith), lt-l
 module _ (w : List ℕ) where
   -- the answer: a list that is no whole records, and one that is too long
   pub count-uneven : (length w % 4 ≡ 0 → ⊥) → Refused 1 ≡ verdictCount w
-  unfolding verdictCount countRefusal
+  unfolding verdictCount countRefusal first
   count-uneven odd = rw (ne-eqb (length w % 4) 0 odd)
 
   pub count-long : length w % 4 ≡ 0 → 4 * logMost < length w → Refused 1 ≡ verdictCount w
-  unfolding verdictCount countRefusal
+  unfolding verdictCount countRefusal first
   count-long even long = rw (eq-eqb (length w % 4) 0 even, lt-ltb (4 * logMost) (length w) long)
 
   -- of k whole records only a verdict that is no byte is refused
   module _ (k : ℕ) (whole : length w ≡ 4 * k) (room : k ≤ logMost) where
-    pub whole-refusal : countRefusal w ≡ given (not (every k (λ i. leb (recordAt w i .verdict) 255))) 1 0
-    unfolding countRefusal
+    pub whole-refusal : countRefusal w ≡ first (test 1 (not (every k (λ i. leb (recordAt w i .verdict) 255))) ∷ [])
+    unfolding countRefusal first
     whole-refusal =
         let rows : length w / 4 ≡ k = omega arith in
         rw (eq-eqb (length w % 4) 0 (omega arith), le-ltb (4 * logMost) (length w) (omega arith), rows)
@@ -82,16 +83,16 @@ module _ (t : List ℕ) (p : ℕ) where
       (λ m below. getD-take (4 * h) (drop (logAt p) t) m 0 below ∙ sym (getD-take (4 * logMost) (drop (logAt p) t) m 0 (omega arith))))
 
   pub node-unsound : sound t ≡ false → Refused 1 ≡ nodeCount t p
-  unfolding nodeCount
+  unfolding nodeCount first
   node-unsound h = rw h
 
   pub node-absent : (n : ℕ) → sound t ≡ true → n ≡ count t → n ≤ p → Refused 3 ≡ nodeCount t p
-  unfolding nodeCount
+  unfolding nodeCount first
   node-absent n h en absent = rw (h, ← en, le-leb n p absent)
 
   pub node-counted : (h k at : ℕ) (r : Count) → sound t ≡ true → p < count t → h ≡ held t p → at ≡ logAt p
       → r ≡ verdictCount (take k (drop at t)) → k ≡ 4 * h → r ≡ nodeCount t p
-  unfolding nodeCount verdictCount
+  unfolding nodeCount verdictCount first
   node-counted h k at r good present eh ea er ek =
       let s = sound-facts t good in
       let room : h ≤ logMost = omega (arith, s .room p present) in

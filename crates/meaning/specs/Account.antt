@@ -1,6 +1,6 @@
 -- The plain account of demand 3: it knows no vector and no acknowledgement, and never drops a record. The briefing, demand 3.
 use mathlib.Core.Bool.{Bool, true, false, not, _&&_, _||_, cond}
-use mathlib.Core.List.{List, [], _∷_, _++_}
+use mathlib.Core.List.{List, [], _∷_, _++_, map}
 use Prim.Native.Nat.{ℕ, zero, suc}
 use lib.Dec.{eqb}
 use Rattle.meaning.specs.declared.Record.{Record}
@@ -67,10 +67,20 @@ stepped x s =
       account = noteIf (refusal (x .table) (s .action)) (s .action) (x .account);
     }
 
-unfoldable pub ran : Run → List Step → Run
+-- What befalls a run, one event after the other: a step is one
+pub data Event : Type 0 where
+  AStep : Step → Event
+
+abbrev pub events : List Step → List Event
+events ss = map AStep ss
+
+unfoldable pub befell : Run → Event → Run
+befell x (AStep s) = stepped x s
+
+unfoldable pub ran : Run → List Event → Run
 ran x [] = x
-ran x (s ∷ ss) = ran (stepped x s) ss
+ran x (e ∷ es) = ran (befell x e) es
 
 -- "Start from a fresh table of 2 to 16 nodes and take any list of steps"
-unfoldable pub run : ℕ → List Step → Run
-run n ss = ran (record { table = fresh n; account = nothing }) ss
+unfoldable pub run : ℕ → List Event → Run
+run n es = ran (record { table = fresh n; account = nothing }) es

@@ -1,4 +1,5 @@
 -- Frames: digits, the check, the frame of a step and of a start, and what a line means. Document 01, "Frames and journals".
+use mathlib.Core.Path.{_≡_}
 use mathlib.Core.Bool.{Bool, true, false, not, _&&_, _||_, cond}
 use mathlib.Core.List.{List, [], _∷_, _++_}
 use Prim.Native.Nat.{ℕ, zero, suc, _+_, _-_, _*_, _/_, _%_, _^_}
@@ -10,7 +11,8 @@ use Rattle.meaning.specs.declared.Line.{Line}
 use Rattle.meaning.specs.declared.Line.the-variants.{Begin, Act, Refused}
 use Rattle.meaning.specs.declared.Framed.{Framed}
 use Rattle.meaning.specs.declared.Framed.the-variants.{Length, Refused as Unframed}
-use Rattle.meaning.specs.Rows.{given, unless}
+use Rattle.meaning.specs.Refusals.{Test, test, first}
+use Rattle.meaning.specs.Rows.{unless}
 use Rattle.meaning.specs.Table.{countRight, place}
 use Rattle.meaning.specs.Steps.{outcomeAbove}
 
@@ -43,20 +45,45 @@ total (b ∷ bs) = (b + total bs) % 256
 unfoldable pub check : List ℕ → ℕ
 check bs = (256 - total bs) % 256
 
--- The widths in bytes of each kind's fields: 00 start, 01 write, 02 session, 03 purge
-abbrev pub kinds : List (List ℕ)
-kinds = (1 ∷ []) ∷ (1 ∷ 4 ∷ 4 ∷ 1 ∷ []) ∷ (1 ∷ 1 ∷ 4 ∷ 4 ∷ 1 ∷ []) ∷ (1 ∷ []) ∷ []
+-- A kind of line: its number, and the widths of its fields in bytes
+pub record Kind : Type 0 where
+  pub kind : ℕ
+  pub fields : List ℕ
 
-unfoldable pub widths : ℕ → List ℕ
-widths kind = getD kinds kind []
+abbrev pub row : ℕ → List ℕ → Kind
+row k ws = record { kind = k; fields = ws }
+
+-- The kinds of a journal's lines: 00 start, 01 write, 02 session, 03 purge. A row is found by its number, so their order is free, and a reader
+-- of other lines has rows of its own.
+unfoldable pub journalKinds : List Kind
+journalKinds = row 0 (1 ∷ []) ∷ row 1 (1 ∷ 4 ∷ 4 ∷ 1 ∷ []) ∷ row 2 (1 ∷ 1 ∷ 4 ∷ 4 ∷ 1 ∷ []) ∷ row 3 (1 ∷ []) ∷ []
+
+-- whether a kind is one of these, and the widths of its fields
+unfoldable pub knownIn : List Kind → ℕ → Bool
+knownIn [] k = false
+knownIn (x ∷ xs) k = eqb k (x .kind) || knownIn xs k
+
+unfoldable pub widthsIn : List Kind → ℕ → List ℕ
+widthsIn [] k = []
+widthsIn (x ∷ xs) k = cond (eqb k (x .kind)) (x .fields) (widthsIn xs k)
 
 abbrev pub summed : List ℕ → ℕ
 summed [] = 0
 summed (x ∷ xs) = x + summed xs
 
 -- the digits of a line of this kind: two for the kind, each byte of its fields and the check
-unfoldable pub digitsOf : ℕ → ℕ
-digitsOf kind = 2 * (summed (widths kind) + 2)
+unfoldable pub digitsIn : List Kind → ℕ → ℕ
+digitsIn ks k = 2 * (summed (widthsIn ks k) + 2)
+
+-- the same of a journal's lines
+abbrev pub known : ℕ → Bool
+known k = knownIn journalKinds k
+
+abbrev pub widths : ℕ → List ℕ
+widths k = widthsIn journalKinds k
+
+abbrev pub digitsOf : ℕ → ℕ
+digitsOf k = digitsIn journalKinds k
 
 -- "Numbers are high byte first."
 unfoldable pub highFirst : ℕ → ℕ → List ℕ
@@ -96,8 +123,11 @@ actionOf kind f =
 unfoldable pub sealed : List ℕ → List ℕ
 sealed bs = bs ++ (check bs ∷ [])
 
-unfoldable pub frameOf : ℕ → List ℕ → List ℕ
-frameOf kind fields = spelled (sealed (kind ∷ packed (widths kind) fields)) ++ (10 ∷ [])
+unfoldable pub frameIn : List Kind → ℕ → List ℕ → List ℕ
+frameIn ks k fields = spelled (sealed (k ∷ packed (widthsIn ks k) fields)) ++ (10 ∷ [])
+
+abbrev pub frameOf : ℕ → List ℕ → List ℕ
+frameOf k fields = frameIn journalKinds k fields
 
 unfoldable pub frame : Action → List ℕ
 frame x = frameOf (kindOf x) (fieldsOf x)
@@ -115,12 +145,18 @@ unfoldable pub wide : Action → Bool
 wide x = fit (widths (kindOf x)) (fieldsOf x)
 
 -- The writer "refuses with 2 as above, then with 17 if the lent bytes are too few; it then writes nothing."
+unfoldable pub writerTests : List ℕ → Action → List Test
+writerTests out x = test 2 (outcomeAbove x) ∷ test 17 (ltb (length out) (length (frame x))) ∷ []
+
 unfoldable pub writerRefusal : List ℕ → Action → ℕ
-writerRefusal out x = given (outcomeAbove x) 2 (given (ltb (length out) (length (frame x))) 17 0)
+writerRefusal out x = first (writerTests out x)
 
 -- A start is refused with 15 for its n, as by the reader, then with 17.
+unfoldable pub starterTests : List ℕ → ℕ → List Test
+starterTests out n = test 15 (not (countRight n)) ∷ test 17 (ltb (length out) (length (startFrame n))) ∷ []
+
 unfoldable pub starterRefusal : List ℕ → ℕ → ℕ
-starterRefusal out n = given (not (countRight n)) 15 (given (ltb (length out) (length (startFrame n))) 17 0)
+starterRefusal out n = first (starterTests out n)
 
 -- "Otherwise it writes the frame from place 0, reports its length (0 if refused) and changes nothing else."
 abbrev pub framed : ℕ → List ℕ → Framed
@@ -139,6 +175,13 @@ startReply out n = framed (starterRefusal out n) (startFrame n)
 unfoldable pub startAfter : List ℕ → ℕ → List ℕ
 startAfter out n = unless (starterRefusal out n) (place 0 (startFrame n) out) out
 
+-- a writer's answer and the lent bytes at its exit, for a step and for a start
+abbrev pub Wrote : List ℕ → Action → Framed → List ℕ → Type 0
+Wrote out x r out′ = (r ≡ frameReply out x) × (out′ ≡ frameAfter out x)
+
+abbrev pub Began : List ℕ → ℕ → Framed → List ℕ → Type 0
+Began out n r out′ = (r ≡ startReply out n) × (out′ ≡ startAfter out n)
+
 abbrev pub framedValues : Framed → List ℕ
 framedValues (Length k) = 0 ∷ k ∷ []
 framedValues (Unframed k) = k ∷ 0 ∷ []
@@ -147,22 +190,37 @@ framedValues (Unframed k) = k ∷ 0 ∷ []
 unfoldable pub lineKind : List ℕ → ℕ
 lineKind bs = getD bs 0 0
 
-unfoldable pub lineFields : List ℕ → List ℕ
-lineFields bs = unpacked (widths (lineKind bs)) (drop 1 bs)
+unfoldable pub fieldsIn : List Kind → List ℕ → List ℕ
+fieldsIn ks bs = unpacked (widthsIn ks (lineKind bs)) (drop 1 bs)
 
--- Line refusals, the first that applies. The clauses of 11, one after the other: "the digits are none or odd in number, the kind is unknown,
--- the length is not the kind's, or an outcome is above 3". Of 15 a single line can meet only "a start's n is not 2 to 16".
+abbrev pub lineFields : List ℕ → List ℕ
+lineFields bs = fieldsIn journalKinds bs
+
+-- Line refusals, the first that applies. What any reader of lines asks, whatever its kinds: 12, then of 11 "the digits are none or odd in number,
+-- the kind is unknown, the length is not the kind's"
+abbrev pub shapeTests : List Kind → List ℕ → List Test → List Test
+shapeTests ks l more =
+    test 12 (not (allDigits l))
+    ∷ test 11 (eqb (length l % 2) 1 || eqb (length l) 0)
+    ∷ test 11 (not (knownIn ks (lineKind (bytesOf l))))
+    ∷ test 11 (not (eqb (length l) (digitsIn ks (lineKind (bytesOf l)))))
+    ∷ more
+
+-- and of a journal's line: 11, "or an outcome is above 3", then 13, and of 15 only "a start's n is not 2 to 16"
+abbrev pub outcomeHigh : List ℕ → Bool
+outcomeHigh bs = eqb (lineKind bs) 2 && ltb 3 (getD (lineFields bs) 4 0)
+
+abbrev pub startWrong : List ℕ → Bool
+startWrong bs = eqb (lineKind bs) 0 && not (countRight (getD (lineFields bs) 0 0))
+
+unfoldable pub fieldTests : List ℕ → List Test
+fieldTests bs = test 11 (outcomeHigh bs) ∷ test 13 (not (eqb (total bs) 0)) ∷ test 15 (startWrong bs) ∷ []
+
+unfoldable pub lineTests : List ℕ → List Test
+lineTests l = shapeTests journalKinds l (fieldTests (bytesOf l))
+
 unfoldable pub lineRefusal : List ℕ → ℕ
-lineRefusal l =
-    let bs = bytesOf l in
-    let kind = lineKind bs in
-    given (not (allDigits l)) 12
-    (given (eqb (length l % 2) 1 || eqb (length l) 0) 11
-    (given (leb (length kinds) kind) 11
-    (given (not (eqb (length l) (digitsOf kind))) 11
-    (given (eqb kind 2 && ltb 3 (getD (lineFields bs) 4 0)) 11
-    (given (not (eqb (total bs) 0)) 13
-    (given (eqb kind 0 && not (countRight (getD (lineFields bs) 0 0))) 15 0))))))
+lineRefusal l = first (lineTests l)
 
 -- What a line of these bytes says, where it is not refused; the step takes the line number that the reader is told
 abbrev pub meant : ℕ → List ℕ → Bool → Line

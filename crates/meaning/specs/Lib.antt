@@ -1,4 +1,5 @@
 pub mod Rows
+pub mod Refusals
 pub mod Table
 pub mod Node
 pub mod Steps

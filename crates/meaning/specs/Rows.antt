@@ -1,4 +1,4 @@
--- Tests in order, and what is said of a row of numbers or a list of records. Document 01, "The three actions".
+-- What is said of a row of numbers or a list of records. Document 01, "The three actions".
 use mathlib.Core.Bool.{Bool, true, false, not, _&&_}
 use mathlib.Core.List.{List, [], _∷_, _++_}
 use Prim.Native.Nat.{ℕ, zero, suc, _+_, _*_, min, max}
@@ -7,11 +7,6 @@ use Prim.Native.String.{String, len, charAt}
 use lib.ListN.{getD}
 use lib.Dec.{leb}
 use Rattle.meaning.specs.declared.Record.{Record}
-
--- "the first that applies is given": k if the test passes, else what comes after
-abbrev pub given : Bool → ℕ → ℕ → ℕ
-given true k rest = k
-given false k rest = rest
 
 -- A refusal changes nothing: what is new at 0, what was there at any other number
 abbrev pub unless : {A : Type 0} → ℕ → A → A → A
@@ -30,6 +25,11 @@ ascii s = charsFrom (len s) 0 s
 unfoldable pub every : ℕ → (ℕ → Bool) → Bool
 every zero f = true
 every (suc n) f = every n f && f n
+
+-- the test f passes at each element of a list
+unfoldable pub all : {A : Type 0} → (A → Bool) → List A → Bool
+all f [] = true
+all f (x ∷ xs) = f x && all f xs
 
 abbrev pub keepIf : {A : Type 0} → Bool → A → List A → List A
 keepIf true x xs = x ∷ xs

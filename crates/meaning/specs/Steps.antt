@@ -9,8 +9,9 @@ use Rattle.meaning.specs.declared.Action.{Action}
 use Rattle.meaning.specs.declared.Action.the-variants.{Write, Session, Purge}
 use Rattle.meaning.specs.declared.Reply.{Reply}
 use Rattle.meaning.specs.declared.Reply.the-variants.{Written, Carried, Purged, Refused}
-use Rattle.meaning.specs.Rows.{given, unless, least}
-use Rattle.meaning.specs.Table.{Node, logMost, count, node, putNode, sound}
+use Rattle.meaning.specs.Rows.{unless, least}
+use Rattle.meaning.specs.Refusals.{Test, test, first}
+use Rattle.meaning.specs.Table.{Node, logMost, absent, node, putNode, sound}
 use Rattle.meaning.specs.Node.{own, wrote, opened, sent, finished, ended, purged}
 
 -- "outcome 0 finishes neither side, 1 only a, 2 only b, 3 both"
@@ -20,51 +21,53 @@ finishesA outcome = eqb outcome 1 || eqb outcome 3
 abbrev pub finishesB : ℕ → Bool
 finishesB outcome = eqb outcome 2 || eqb outcome 3
 
--- 2: "a session's outcome is above 3"
+-- 2: "a session's outcome is above 3", as the writer of a step's frame asks it
 unfoldable pub outcomeAbove : Action → Bool
 outcomeAbove (Write p t b v) = false
 outcomeAbove (Session a b ca cb o) = ltb 3 o
 outcomeAbove (Purge p) = false
 
--- 3: "a node number is n or more"
-unfoldable pub nodeAbsent : ℕ → Action → Bool
-nodeAbsent n (Write p t b v) = leb n p
-nodeAbsent n (Session a b ca cb o) = leb n a || leb n b
-nodeAbsent n (Purge p) = leb n p
-
--- 4: "a session names one node twice"
-unfoldable pub nodeTwice : Action → Bool
-nodeTwice (Write p t b v) = false
-nodeTwice (Session a b ca cb o) = eqb a b
-nodeTwice (Purge p) = false
-
--- 5: "a write's timestamp is not greater than the writer's own summary entry, or a session reading is less than its node's own entry"
-unfoldable pub clockBack : List ℕ → Action → Bool
-clockBack t (Write p c b v) = leb c (own p (node t p))
-clockBack t (Session a b ca cb o) = ltb ca (own a (node t a)) || ltb cb (own b (node t b))
-clockBack t (Purge p) = false
-
 -- a finishing side would hold more than 64; "Number 6 asks nothing of a side that doesn't finish."
 abbrev pub overfull : Bool → Node → Node → Bool
 overfull finishes mine theirs = finishes && ltb logMost (length (finished mine theirs .log))
 
--- 6: "a write finds 64 held, or a finishing side would hold more than 64"
-unfoldable pub noRoom : List ℕ → Action → Bool
-noRoom t (Write p c b v) = leb logMost (length (node t p .log))
-noRoom t (Session a b ca cb o) =
-    overfull (finishesA o) (opened a ca (node t a)) (opened b cb (node t b)) ||
-    overfull (finishesB o) (opened b cb (node t b)) (opened a ca (node t a))
-noRoom t (Purge p) = false
+-- "For a step, the first that applies is given": for each action the rows that it can meet, in document 01's order
+unfoldable pub refusals : List ℕ → Action → List Test
+refusals t (Write p c b v) =
+    -- "the table is not sound"
+    test 1 (not (sound t)) ∷
+    -- "a node number is n or more"
+    test 3 (absent t p) ∷
+    -- "a write's timestamp is not greater than the writer's own summary entry"
+    test 5 (leb c (own p (node t p))) ∷
+    -- "a write finds 64 held"
+    test 6 (leb logMost (length (node t p .log))) ∷
+    []
+refusals t (Session a b ca cb o) =
+    -- "the table is not sound"
+    test 1 (not (sound t)) ∷
+    -- "a session's outcome is above 3"
+    test 2 (ltb 3 o) ∷
+    -- "a node number is n or more"
+    test 3 (absent t a || absent t b) ∷
+    -- "a session names one node twice"
+    test 4 (eqb a b) ∷
+    -- "a session reading is less than its node's own entry"
+    test 5 (ltb ca (own a (node t a)) || ltb cb (own b (node t b))) ∷
+    -- "a finishing side would hold more than 64"
+    test 6
+    (overfull (finishesA o) (opened a ca (node t a)) (opened b cb (node t b)) ||
+    overfull (finishesB o) (opened b cb (node t b)) (opened a ca (node t a))) ∷
+    []
+refusals t (Purge p) =
+    -- "the table is not sound"
+    test 1 (not (sound t)) ∷
+    -- "a node number is n or more"
+    test 3 (absent t p) ∷
+    []
 
--- "For a step, the first that applies is given, and none is given otherwise": 0 for none
 unfoldable pub refusal : List ℕ → Action → ℕ
-refusal t x =
-    given (not (sound t)) 1
-    (given (outcomeAbove x) 2
-    (given (nodeAbsent (count t) x) 3
-    (given (nodeTwice x) 4
-    (given (clockBack t x) 5
-    (given (noRoom t x) 6 0)))))
+refusal t x = first (refusals t x)
 
 -- what a purge goes by: "the smallest entry of p's acknowledgement row"
 unfoldable pub limit : List ℕ → ℕ → ℕ

@@ -1,5 +1,5 @@
 -- The verdict count. Document 01, "Verdict count".
-use mathlib.Core.Bool.{Bool, true, false, not, _||_, cond}
+use mathlib.Core.Bool.{Bool, true, false, not, cond}
 use mathlib.Core.List.{List, [], _∷_}
 use Prim.Native.Nat.{ℕ, zero, suc, _-_, _*_, _/_, _%_}
 use lib.ListN.{length}
@@ -9,8 +9,9 @@ use Rattle.meaning.specs.declared.Class.{Class}
 use Rattle.meaning.specs.declared.Class.the-variants.{NotRead, PageCache, PlatterGood, PlatterBad, Repaired, Reserved}
 use Rattle.meaning.specs.declared.Count.{Count}
 use Rattle.meaning.specs.declared.Count.the-variants.{Counted, Refused}
-use Rattle.meaning.specs.Rows.{given, every, keep, recordAt, records}
-use Rattle.meaning.specs.Table.{logMost, count, node, sound}
+use Rattle.meaning.specs.Rows.{every, keep, recordAt, records}
+use Rattle.meaning.specs.Refusals.{test, first}
+use Rattle.meaning.specs.Table.{logMost, absent, node, sound}
 
 -- "00–0F not read; 10–1F answered from page cache; 20–2F read from platter, good; 30–3F read from platter, bad;
 -- 40–4F repaired and read back; 50–FF reserved"
@@ -55,8 +56,11 @@ counted rs = Counted (scrubbed rs) (touched rs)
 -- "Over a lent list of 0 to 64 records of four words (else, or with a verdict above 255, refusal 1 and zero counts)"
 unfoldable pub countRefusal : List ℕ → ℕ
 countRefusal w =
-    given (not (eqb (length w % 4) 0) || ltb (4 * logMost) (length w)) 1
-    (given (not (every (length w / 4) (λ i. leb (recordAt w i .verdict) 255))) 1 0)
+    first
+    (test 1 (not (eqb (length w % 4) 0)) ∷
+    test 1 (ltb (4 * logMost) (length w)) ∷
+    test 1 (not (every (length w / 4) (λ i. leb (recordAt w i .verdict) 255))) ∷
+    [])
 
 abbrev pub countIs : ℕ → List Record → Count
 countIs zero rs = counted rs
@@ -67,8 +71,17 @@ verdictCount w = countIs (countRefusal w) (records (length w / 4) w)
 
 -- The count over a node's log: 1 for a table that is not sound, then 3 for a node out of range
 unfoldable pub nodeCount : List ℕ → ℕ → Count
-nodeCount t p = countIs (given (not (sound t)) 1 (given (leb (count t) p) 3 0)) (node t p .log)
+nodeCount t p = countIs (first (test 1 (not (sound t)) ∷ test 3 (absent t p) ∷ [])) (node t p .log)
 
 abbrev pub countValues : Count → List ℕ
 countValues (Counted s t) = 0 ∷ s ∷ t ∷ []
 countValues (Refused k) = k ∷ 0 ∷ 0 ∷ []
+
+-- Document 01's values of each class: its first and its last verdict byte
+abbrev pub classRange : Class → List ℕ
+classRange NotRead = 0x00 ∷ 0x0f ∷ []
+classRange PageCache = 0x10 ∷ 0x1f ∷ []
+classRange PlatterGood = 0x20 ∷ 0x2f ∷ []
+classRange PlatterBad = 0x30 ∷ 0x3f ∷ []
+classRange Repaired = 0x40 ∷ 0x4f ∷ []
+classRange Reserved = 0x50 ∷ 0xff ∷ []

@@ -1,9 +1,9 @@
 -- Two replies that a contract of framing.rt allows are equal: the number returned, the length stored and every lent byte at exit.
 use mathlib.Core.Path.{sym, _∙_}
-use mathlib.Core.List.{_∷_}
+use mathlib.Core.List.{[], _∷_, _++_}
 use denote.Ref.{now}
 use Rattle.meaning.proofs.OneReply.{OneReply, OneResult}
-use Rattle.pollencart.proofs.ValueLaws.{led}
+use Rattle.answers.proofs.ValueLaws.{both}
 use Rattle.pollencart.proofs.framing.pollencart_check.Kinds as check-kinds
 use Rattle.pollencart.proofs.framing.pollencart_check.Reads as check
 use Rattle.pollencart.proofs.framing.pollencart_kind.Kinds as kind-kinds
@@ -28,14 +28,14 @@ one-kind κs a x y s s' p q = p ∙ sym q
 pub one-field : OneResult 1 field-kinds.ps field-kinds.r field.Post
 one-field κs a x y s s' p q = p ∙ sym q
 
-pub one-start : OneReply 2 start-kinds.ps start-kinds.r start.Post (λ κs x s. x ∷ now (s .1 .1 .0) ∷ now (s .0))
-one-start κs a x y s s' p q = led (p .0) (q .0) (led (p .1) (q .1) (p .2 ∙ sym (q .2)))
+pub one-start : OneReply 2 start-kinds.ps start-kinds.r start.Post (λ κs x s. (x ∷ now (s .1 .1 .0) ∷ []) ++ now (s .0))
+one-start κs a x y s s' p q = both (p .0) (q .0) (p .1) (q .1)
 
-pub one-write : OneReply 2 write-kinds.ps write-kinds.r write.Post (λ κs x s. x ∷ now (s .1 .1 .1 .1 .1 .0) ∷ now (s .0))
-one-write κs a x y s s' p q = led (p .0) (q .0) (led (p .1) (q .1) (p .2 ∙ sym (q .2)))
+pub one-write : OneReply 2 write-kinds.ps write-kinds.r write.Post (λ κs x s. (x ∷ now (s .1 .1 .1 .1 .1 .0) ∷ []) ++ now (s .0))
+one-write κs a x y s s' p q = both (p .0) (q .0) (p .1) (q .1)
 
-pub one-session : OneReply 2 session-kinds.ps session-kinds.r session.Post (λ κs x s. x ∷ now (s .1 .1 .1 .1 .1 .1 .0) ∷ now (s .0))
-one-session κs a x y s s' p q = led (p .0) (q .0) (led (p .1) (q .1) (p .2 ∙ sym (q .2)))
+pub one-session : OneReply 2 session-kinds.ps session-kinds.r session.Post (λ κs x s. (x ∷ now (s .1 .1 .1 .1 .1 .1 .0) ∷ []) ++ now (s .0))
+one-session κs a x y s s' p q = both (p .0) (q .0) (p .1) (q .1)
 
-pub one-purge : OneReply 2 purge-kinds.ps purge-kinds.r purge.Post (λ κs x s. x ∷ now (s .1 .1 .0) ∷ now (s .0))
-one-purge κs a x y s s' p q = led (p .0) (q .0) (led (p .1) (q .1) (p .2 ∙ sym (q .2)))
+pub one-purge : OneReply 2 purge-kinds.ps purge-kinds.r purge.Post (λ κs x s. (x ∷ now (s .1 .1 .0) ∷ []) ++ now (s .0))
+one-purge κs a x y s s' p q = both (p .0) (q .0) (p .1) (q .1)

@@ -9,4 +9,5 @@ use Rattle.pollencart.proofs.replays.pollencart_replay.Reads as replay
 
 pub one-replay : OneReply 3 replay-kinds.ps replay-kinds.r replay.Post {R = List ℕ × List ℕ} (λ κs x s. (x ∷ now (s .1 .0), now (s .1 .1 .0)))
 one-replay κs a x y s s' p q =
-    ap₂ (λ (t out : List ℕ). (t, out)) (ap₂ _∷_ (p .0 ∙ sym (q .0)) (p .1 ∙ sym (q .1))) (p .2 ∙ sym (q .2))
+    ap₂ (λ (t out : List ℕ). (t, out))
+    (ap₂ _∷_ (p .shown .long ∙ sym (q .shown .long)) (p .table ∙ sym (q .table))) (p .shown .is ∙ sym (q .shown .is))

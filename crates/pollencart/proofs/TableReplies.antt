@@ -1,9 +1,10 @@
 -- Two replies that a contract of tables.rt or entries.rt allows are equal: the number returned, each count stored and every word of the table at exit.
-use mathlib.Core.Path.{sym, _∙_}
-use mathlib.Core.List.{_∷_}
+use mathlib.Core.Path.{ap, sym, _∙_}
+use mathlib.Core.List.{[], _∷_, _++_}
+use Prim.Native.Nat.{ℕ}
 use denote.Ref.{now}
 use Rattle.meaning.proofs.OneReply.{OneReply, OneResult}
-use Rattle.pollencart.proofs.ValueLaws.{led}
+use Rattle.answers.proofs.ValueLaws.{both}
 use Rattle.pollencart.proofs.tables.pollencart_fresh.Kinds as fresh-kinds
 use Rattle.pollencart.proofs.tables.pollencart_fresh.Reads as fresh
 use Rattle.pollencart.proofs.tables.pollencart_write.Kinds as write-kinds
@@ -12,26 +13,28 @@ use Rattle.pollencart.proofs.tables.pollencart_session.Kinds as session
 use Rattle.pollencart.proofs.tables.pollencart_session.Reads as session
 use Rattle.pollencart.proofs.tables.pollencart_purge.Kinds as purge-kinds
 use Rattle.pollencart.proofs.tables.pollencart_purge.Reads as purge
-use Rattle.pollencart.proofs.entries.pollencart_summary.Kinds as summary-kinds
-use Rattle.pollencart.proofs.entries.pollencart_summary.Reads as summary
-use Rattle.pollencart.proofs.entries.pollencart_acknowledgement.Kinds as acknowledgement-kinds
-use Rattle.pollencart.proofs.entries.pollencart_acknowledgement.Reads as acknowledgement
-use Rattle.pollencart.proofs.entries.pollencart_held.Kinds as held-kinds
-use Rattle.pollencart.proofs.entries.pollencart_held.Reads as held
-use Rattle.pollencart.proofs.entries.pollencart_record.Kinds as record-kinds
-use Rattle.pollencart.proofs.entries.pollencart_record.Reads as record-of
+use Rattle.pollencart.proofs.reads.pollencart_summary.Kinds as summary-kinds
+use Rattle.pollencart.proofs.reads.pollencart_summary.Reads as summary
+use Rattle.pollencart.proofs.reads.pollencart_acknowledgement.Kinds as acknowledgement-kinds
+use Rattle.pollencart.proofs.reads.pollencart_acknowledgement.Reads as acknowledgement
+use Rattle.pollencart.proofs.reads.pollencart_held.Kinds as held-kinds
+use Rattle.pollencart.proofs.reads.pollencart_held.Reads as held
+use Rattle.pollencart.proofs.reads.pollencart_record.Kinds as record-kinds
+use Rattle.pollencart.proofs.reads.pollencart_record.Reads as record-of
 
-pub one-fresh : OneReply 1 fresh-kinds.ps fresh-kinds.r fresh.Post (λ κs x s. x ∷ now (s .0))
-one-fresh κs a x y s s' p q = led (p .0) (q .0) (p .1 ∙ sym (q .1))
+pub one-fresh : OneReply 1 fresh-kinds.ps fresh-kinds.r fresh.Post (λ κs x s. (x ∷ []) ++ now (s .0))
+one-fresh κs a x y s s' p q = both (ap (λ (k : ℕ). k ∷ []) (p .0)) (ap (λ (k : ℕ). k ∷ []) (q .0)) (p .1) (q .1)
 
-pub one-write : OneReply 1 write-kinds.ps write-kinds.r write.Post (λ κs x s. x ∷ now (s .0))
-one-write κs a x y s s' p q = led (p .0) (q .0) (p .1 ∙ sym (q .1))
+pub one-write : OneReply 1 write-kinds.ps write-kinds.r write.Post (λ κs x s. (x ∷ []) ++ now (s .0))
+one-write κs a x y s s' p q = both (p .0) (q .0) (p .1) (q .1)
 
-pub one-session : OneReply 3 session-kinds.ps session-kinds.r session.Post (λ κs x s. x ∷ now (s .1 .1 .1 .1 .1 .1 .0) ∷ now (s .1 .1 .1 .1 .1 .1 .1 .0) ∷ now (s .0))
-one-session κs a x y s s' p q = led (p .0) (q .0) (led (p .1) (q .1) (led (p .2) (q .2) (p .3 ∙ sym (q .3))))
+pub one-session :
+    OneReply 3 session-kinds.ps session-kinds.r session.Post
+    (λ κs x s. (x ∷ now (s .1 .1 .1 .1 .1 .1 .0) ∷ now (s .1 .1 .1 .1 .1 .1 .1 .0) ∷ []) ++ now (s .0))
+one-session κs a x y s s' p q = both (p .0) (q .0) (p .1) (q .1)
 
-pub one-purge : OneReply 2 purge-kinds.ps purge-kinds.r purge.Post (λ κs x s. x ∷ now (s .1 .1 .0) ∷ now (s .0))
-one-purge κs a x y s s' p q = led (p .0) (q .0) (led (p .1) (q .1) (p .2 ∙ sym (q .2)))
+pub one-purge : OneReply 2 purge-kinds.ps purge-kinds.r purge.Post (λ κs x s. (x ∷ now (s .1 .1 .0) ∷ []) ++ now (s .0))
+one-purge κs a x y s s' p q = both (p .0) (q .0) (p .1) (q .1)
 
 pub one-summary : OneResult 1 summary-kinds.ps summary-kinds.r summary.Post
 one-summary κs a x y s s' p q = p ∙ sym q

@@ -1,6 +1,6 @@
 // The C library: what other programs call, on numbers and slices. include/pollencart.h declares it; each module holds one part.
 pub mod counts;
-pub mod entries;
 pub mod framing;
+pub mod reads;
 pub mod replays;
 pub mod tables;

@@ -1,46 +1,12 @@
 // The table for C: a fresh one, and each of the three actions on the caller's own words. Thin over the crate `table`.
 ghost use mathlib.Core.Path.{_≡_};
-ghost use lib.ListN.{getD};
+ghost use mathlib.Core.List.{[], _∷_};
 ghost use Rattle.meaning.specs.declared.Action.the-variants.{Write, Session, Purge};
 ghost use Rattle.meaning.specs.Table.{freshRefusal, madeFresh};
-ghost use Rattle.meaning.specs.Steps.{reply, after, replyValues};
-use meaning::Reply;
-
-// A reply's refusal number, 0 for none.
-fn number_of(answer: Reply) -> u32
-    ensures { λ r. ⌜ r ≡ getD (replyValues answer) 0 0 ⌝ }
-{
-    match answer {
-        Reply::Written => 0,
-        Reply::Carried { .. } => 0,
-        Reply::Purged { .. } => 0,
-        Reply::Refused { number } => number,
-    }
-}
-
-// A reply's first count: what a session carried to a, or what a purge removed.
-fn first_of(answer: Reply) -> u32
-    ensures { λ r. ⌜ r ≡ getD (replyValues answer) 1 0 ⌝ }
-{
-    match answer {
-        Reply::Written => 0,
-        Reply::Carried { a, .. } => a,
-        Reply::Purged { removed } => removed,
-        Reply::Refused { .. } => 0,
-    }
-}
-
-// A reply's second count: what a session carried to b.
-fn second_of(answer: Reply) -> u32
-    ensures { λ r. ⌜ r ≡ getD (replyValues answer) 2 0 ⌝ }
-{
-    match answer {
-        Reply::Written => 0,
-        Reply::Carried { b, .. } => b,
-        Reply::Purged { .. } => 0,
-        Reply::Refused { .. } => 0,
-    }
-}
+ghost use Rattle.answers.specs.Told.{Stepped};
+use answers::first_of;
+use answers::number_of;
+use answers::second_of;
 
 // Makes a fresh table of n nodes of the words lent.
 #[no_mangle]
@@ -59,7 +25,7 @@ pub extern "C" fn pollencart_write(
     block: u32,
     verdict: u8,
 ) -> u32
-    ensures { λ r. ⌜ (r ≡ getD (replyValues (reply (now (table .entry)) (Write node timestamp block verdict))) 0 0) × (now (table .exit) ≡ after (now (table .entry)) (Write node timestamp block verdict)) ⌝ }
+    ensures { λ r. ⌜ Stepped (now (table .entry)) (Write node timestamp block verdict) (r ∷ []) (now (table .exit)) ⌝ }
 {
     let answer = table::act::write(table, node, timestamp, block, verdict);
     number_of(answer)
@@ -77,7 +43,7 @@ pub extern "C" fn pollencart_session(
     to_a: &mut u32,
     to_b: &mut u32,
 ) -> u32
-    ensures { λ r. ⌜ (r ≡ getD (replyValues (reply (now (table .entry)) (Session a b ca cb outcome))) 0 0) × (now («to_a» .exit) ≡ getD (replyValues (reply (now (table .entry)) (Session a b ca cb outcome))) 1 0) × (now («to_b» .exit) ≡ getD (replyValues (reply (now (table .entry)) (Session a b ca cb outcome))) 2 0) × (now (table .exit) ≡ after (now (table .entry)) (Session a b ca cb outcome)) ⌝ }
+    ensures { λ r. ⌜ Stepped (now (table .entry)) (Session a b ca cb outcome) (r ∷ now («to_a» .exit) ∷ now («to_b» .exit) ∷ []) (now (table .exit)) ⌝ }
 {
     let answer = table::act::session(table, a, b, ca, cb, outcome);
     *to_a = first_of(answer);
@@ -88,7 +54,7 @@ pub extern "C" fn pollencart_session(
 // A node drops what every node has acknowledged to it; how many records left is stored.
 #[no_mangle]
 pub extern "C" fn pollencart_purge(table: &mut [u32], node: u8, removed: &mut u32) -> u32
-    ensures { λ r. ⌜ (r ≡ getD (replyValues (reply (now (table .entry)) (Purge node))) 0 0) × (now (removed .exit) ≡ getD (replyValues (reply (now (table .entry)) (Purge node))) 1 0) × (now (table .exit) ≡ after (now (table .entry)) (Purge node)) ⌝ }
+    ensures { λ r. ⌜ Stepped (now (table .entry)) (Purge node) (r ∷ now (removed .exit) ∷ []) (now (table .exit)) ⌝ }
 {
     let answer = table::act::purge(table, node);
     *removed = first_of(answer);

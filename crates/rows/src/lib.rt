@@ -1,4 +1,96 @@
-// Leaves over one row of numbers, one log or a few words of a table, lent as a part that starts anywhere.
+// Leaves over one row of numbers, or one word of a list, lent as a part that starts anywhere.
 // They know no offset: where a row stands is the caller's to say. Inner functions: what they require, the table's code shows.
-pub mod log;
-pub mod row;
+ghost use mathlib.Core.Path.{_≡_};
+ghost use mathlib.Core.List.{[], _∷_};
+ghost use Prim.Native.Nat.{_+_, _≤_, _<_};
+ghost use lib.ListN.{length, replicate};
+ghost use Rattle.meaning.specs.Rows.{least, raise};
+ghost use Rattle.meaning.specs.Table.{place};
+
+// The smaller and the greater of two numbers.
+fn min_of(x: u32, y: u32) -> u32
+    ensures { λ r. ⌜ r ≡ Prim.Native.Nat.min x y ⌝ }
+{
+    if x <= y { x } else { y }
+}
+
+fn max_of(x: u32, y: u32) -> u32
+    ensures { λ r. ⌜ r ≡ Prim.Native.Nat.max x y ⌝ }
+{
+    if x <= y { y } else { x }
+}
+
+// The smallest entry of a row.
+pub fn least_of(row: &[u32]) -> u32
+    requires { ⌜ 0 < length (now row) ⌝ }
+    ensures { λ r. ⌜ r ≡ least (now (row .entry)) ⌝ }
+{
+    let mut low = row[0];
+    let mut i: usize = 1;
+    while i < row.len() {
+        low = min_of(low, row[i]);
+        i += 1;
+    }
+    low
+}
+
+// Fills a row with, entry by entry, the greater of two rows.
+fn fill_raised(row: &mut [u32], mine: &[u32], theirs: &[u32])
+    requires { ⌜ (length (now mine) ≡ length (now row)) × (length (now theirs) ≡ length (now row)) ⌝ }
+    ensures { λ _. ⌜ now (row .exit) ≡ raise (now (mine .entry)) (now (theirs .entry)) ⌝ }
+{
+    let mut i: usize = 0;
+    while i < row.len() {
+        row[i] = max_of(mine[i], theirs[i]);
+        i += 1;
+    }
+}
+
+// Puts one word.
+pub fn put_word(t: &mut [u32], at: usize, v: u32)
+    requires { ⌜ at < length (now t) ⌝ }
+    ensures { λ _. ⌜ now (t .exit) ≡ place at (v ∷ []) (now (t .entry)) ⌝ }
+{
+    t[at] = v;
+}
+
+// Fills a row with zeros.
+pub fn clear(row: &mut [u32])
+    ensures { λ _. ⌜ now (row .exit) ≡ replicate (length (now (row .entry))) 0 ⌝ }
+{
+    let mut i: usize = 0;
+    while i < row.len() {
+        row[i] = 0;
+        i += 1;
+    }
+}
+
+// Copies a row over another of its length.
+pub fn copy_row(to: &mut [u32], from: &[u32])
+    requires { ⌜ length (now from) ≡ length (now to) ⌝ }
+    ensures { λ _. ⌜ now (to .exit) ≡ now (from .entry) ⌝ }
+{
+    let mut i: usize = 0;
+    while i < to.len() {
+        to[i] = from[i];
+        i += 1;
+    }
+}
+
+// Puts a row of words.
+pub fn put_row(t: &mut [u32], at: usize, row: &[u32])
+    requires { ⌜ at + length (now row) ≤ length (now t) ⌝ }
+    ensures { λ _. ⌜ now (t .exit) ≡ place at (now (row .entry)) (now (t .entry)) ⌝ }
+{
+    let end = at + row.len();
+    copy_row(&mut t[at..end], row);
+}
+
+// Puts, entry by entry, the greater of two rows.
+pub fn put_raised(t: &mut [u32], at: usize, mine: &[u32], theirs: &[u32])
+    requires { ⌜ (at + length (now mine) ≤ length (now t)) × (length (now theirs) ≡ length (now mine)) ⌝ }
+    ensures { λ _. ⌜ now (t .exit) ≡ place at (raise (now (mine .entry)) (now (theirs .entry))) (now (t .entry)) ⌝ }
+{
+    let end = at + mine.len();
+    fill_raised(&mut t[at..end], mine, theirs);
+}

@@ -2,3 +2,4 @@ pub mod Running
 pub mod Telling
 pub mod Kept
 pub mod OneReply
+pub mod Values

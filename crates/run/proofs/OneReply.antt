@@ -11,8 +11,9 @@ use Rattle.run.proofs.replay.Kinds as replay-kinds
 use Rattle.run.proofs.replay.Reads as replay
 
 pub one-run : OneReply 2 run-kinds.ps run-kinds.r run.Post {R = Outcome × List ℕ} (λ κs x s. (x, now (s .1 .0)))
-one-run κs a x y s s' p q = ap₂ (λ (o : Outcome) (t : List ℕ). (o, t)) (p .0 ∙ sym (q .0)) (p .1 ∙ sym (q .1))
+one-run κs a x y s s' p q = ap₂ (λ (o : Outcome) (t : List ℕ). (o, t)) (p .outcome ∙ sym (q .outcome)) (p .table ∙ sym (q .table))
 
 pub one-replay : OneReply 3 replay-kinds.ps replay-kinds.r replay.Post {R = List ℕ × List ℕ} (λ κs x s. (x ∷ now (s .1 .0), now (s .1 .1 .0)))
 one-replay κs a x y s s' p q =
-    ap₂ (λ (t out : List ℕ). (t, out)) (ap₂ _∷_ (p .0 ∙ sym (q .0)) (p .2 ∙ sym (q .2))) (p .1 ∙ sym (q .1))
+    ap₂ (λ (t out : List ℕ). (t, out))
+    (ap₂ _∷_ (p .shown .long ∙ sym (q .shown .long)) (p .table ∙ sym (q .table))) (p .shown .is ∙ sym (q .shown .is))

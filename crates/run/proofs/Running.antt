@@ -15,18 +15,20 @@ use Rattle.meaning.specs.declared.Action.{Action}
 use Rattle.meaning.specs.declared.Action.the-variants.{Write, Session, Purge}
 use Rattle.meaning.specs.declared.Step.{Step}
 use Rattle.meaning.specs.declared.Next.the-variants.{Begin as BeginAt, Act as ActAt, Refused as RefusedAt, End}
+use Rattle.meaning.specs.declared.Outcome.{Outcome}
 use Rattle.meaning.specs.declared.Outcome.the-variants.{Bad, Done}
 use Rattle.meaning.specs.Steps.{refusal, reported, replied, reply, after}
-use Rattle.meaning.specs.Table.{tableWords, nodesMost, countRight, fresh, freshRefusal, madeFresh}
-use Rattle.meaning.specs.Journals.{Steps, Journal, none, broken, step∷, oneIf, nextAt, stepsFrom, journal, afterAll, refusedOf, outcomeOf, replayed, startedFrom, replayAfter}
+use Rattle.meaning.specs.Table.{tableWords, nodesMost, countRight, fresh, madeFresh, Sound}
+use Rattle.meaning.specs.Journals.{Steps, Journal, none, broken, step∷, oneIf, nextAt, stepsFrom, journal}
+use Rattle.meaning.specs.Journals.{afterAll, refusedOf, outcomeOf, replayed, startedFrom, replayAfter}
 use Rattle.meaning.proofs.Action as A
 use Rattle.meaning.proofs.Action.Laws as A′
-use Rattle.meaning.proofs.TableLaws.{Sound}
 use Rattle.meaning.proofs.RowLaws.{and-left, and-right}
+use Rattle.meaning.proofs.TableLaws.{fresh-right}
 use Rattle.meaning.proofs.StepLaws.{verdictOf, fresh-sound}
 use Rattle.meaning.proofs.AccountJournals.{started}
 use Rattle.meaning.proofs.JournalLaws.{steps-act, steps-end}
-use Rattle.run.specs.Run.{refusedBy, endedBy, restOutcome, runOutcome, runAfter}
+use Rattle.run.specs.Run.{refusedBy, endedBy, restOutcome, runOutcome, runAfter, Stepped, RanFrom, Ran}
 
 -- an action's verdict is a byte
 verdict-in : (x : Action) → Fields (variants A.the-type) (spellss (A.the-type .parts) A′.the-laws) (A.the-type .to x) → verdictOf x ≤ 255
@@ -73,7 +75,9 @@ rest-step n k r t x y = go (y .badNumber)
     go : (j : ℕ) → endedBy j n k r t (step∷ x y) ≡ endedBy j n (k + 1) (r + oneIf (refusal t (x .action))) (after t (x .action)) y
     go zero =
         let a : k + suc (length (y .steps)) ≡ k + 1 + length (y .steps) = omega arith in
-        let b : r + (oneIf (refusal t (x .action)) + refusedOf (after t (x .action)) (y .steps)) ≡ r + oneIf (refusal t (x .action)) + refusedOf (after t (x .action)) (y .steps) = omega arith in
+        let one = oneIf (refusal t (x .action)) in
+        let more = refusedOf (after t (x .action)) (y .steps) in
+        let b : r + (one + more) ≡ r + one + more = omega arith in
         rw (a, b)
     go (suc j) = refl
 
@@ -110,34 +114,39 @@ module _ {s : List ℕ} {from n : ℕ} {t₀ t : List ℕ} {at line refused : �
 
   -- the whole is what is left
   whole : (y : Steps) → stepsFrom (length s + 2 - line) s at line ≡ y
-      → (restOutcome n (line - 2) refused t y ≡ restOutcome n 0 0 t₀ (stepsFrom (length s) s from 2)) × (afterAll t (y .steps) ≡ afterAll t₀ (stepsFrom (length s) s from 2 .steps))
-  whole y e = (sym (x .outcome ∙ ap (restOutcome n (line - 2) refused t) e), sym (x .table ∙ ap (λ (z : Steps). afterAll t (z .steps)) e))
+      → RanFrom s from n t₀ (restOutcome n (line - 2) refused t y) (afterAll t (y .steps))
+  whole y e =
+      record {
+        outcome = sym (x .outcome ∙ ap (restOutcome n (line - 2) refused t) e);
+        table = sym (x .table ∙ ap (λ (z : Steps). afterAll t (z .steps)) e);
+      }
 
   pub reached-bad : {j : ℕ} → 0 < j → stepsFrom (suc (length s + 2 - (line + 1))) s at line ≡ broken line j
-      → (Bad line j ≡ restOutcome n 0 0 t₀ (stepsFrom (length s) s from 2)) × (t ≡ afterAll t₀ (stepsFrom (length s) s from 2 .steps))
+      → RanFrom s from n t₀ (Bad line j) t
   reached-bad {j} h e =
       let w = whole (broken line j) (left-is e) in
-      (sym (rest-bad n (line - 2) refused t line j h) ∙ w .0, sym (after-none t) ∙ w .1)
+      record { outcome = sym (rest-bad n (line - 2) refused t line j h) ∙ w .outcome; table = sym (after-none t) ∙ w .table }
 
-  pub reached-end : nextAt s at line ≡ End
-      → (Done n (line - 2) refused ≡ restOutcome n 0 0 t₀ (stepsFrom (length s) s from 2)) × (t ≡ afterAll t₀ (stepsFrom (length s) s from 2 .steps))
+  pub reached-end : nextAt s at line ≡ End → RanFrom s from n t₀ (Done n (line - 2) refused) t
   reached-end e =
       let w = whole none (steps-end (length s + 2 - line) s at line e) in
-      (sym (rest-end n (line - 2) refused t) ∙ w .0, sym (after-none t) ∙ w .1)
+      record { outcome = sym (rest-end n (line - 2) refused t) ∙ w .outcome; table = sym (after-none t) ∙ w .table }
 
-  pub reached-step : {y : Step} {next : ℕ} → nextAt s at line ≡ ActAt y next → at < next → next ≤ length s → (k : ℕ) (t′ : List ℕ)
-      → k ≡ oneIf (refusal t (y .action)) → t′ ≡ after t (y .action) → Sound t′ → k ≤ 1 → Reached s from n t₀ t′ next (line + 1) (refused + k)
-  reached-step {y} {next} e low high k t′ counts leaves sound one =
+  pub reached-step : {y : Step} {next k : ℕ} {t′ : List ℕ} → nextAt s at line ≡ ActAt y next → at < next → next ≤ length s → Stepped t (y .action) k t′
+      → Reached s from n t₀ t′ next (line + 1) (refused + k)
+  reached-step {y} {next} {k} {t′} e low high d =
       let w = whole (step∷ y (stepsFrom (length s + 2 - (line + 1)) s next (line + 1))) (left-is (steps-act (length s + 2 - (line + 1)) s at line e)) in
       let l : line - 2 + 1 ≡ line + 1 - 2 = omega (arith, x .begun) in
       record {
         begun = omega (arith, x .begun);
         passed = omega (arith, x .passed);
         within = high;
-        few = omega (arith, x .few);
-        isSound = sound;
-        outcome = sym (w .0) ∙ rest-step n (line - 2) refused t y (stepsFrom (length s + 2 - (line + 1)) s next (line + 1)) ∙ rw (l, counts, leaves);
-        table = sym (w .1) ∙ after-step t y (stepsFrom (length s + 2 - (line + 1)) s next (line + 1) .steps) ∙ rw leaves;
+        few = omega (arith, x .few, d .one);
+        isSound = d .isSound;
+        outcome =
+            sym (w .outcome) ∙ rest-step n (line - 2) refused t y (stepsFrom (length s + 2 - (line + 1)) s next (line + 1)) ∙
+            rw (l, d .counts, d .leaves);
+        table = sym (w .table) ∙ after-step t y (stepsFrom (length s + 2 - (line + 1)) s next (line + 1) .steps) ∙ rw (d .leaves);
       }
 
 pub one-most : (k : ℕ) → oneIf k ≤ 1
@@ -146,18 +155,21 @@ one-most (suc k) = omega arith
 
 -- a fresh table is made, and is sound
 pub made-fresh : (t : List ℕ) (n : ℕ) → length t ≡ tableWords → countRight n ≡ true → madeFresh t n ≡ fresh n
-unfolding madeFresh freshRefusal
-made-fresh t n l c = rw (c, eq-eqb (length t) tableWords l)
+unfolding madeFresh
+made-fresh t n l c = rw (fresh-right t n c l)
 
 pub right-sound : (n : ℕ) → countRight n ≡ true → Sound (fresh n)
-right-sound n c = fresh-sound n (leb-true 2 n (and-left (leb 2 n) (leb n nodesMost) c)) (leb-true n nodesMost (and-right (leb 2 n) (leb n nodesMost) c))
+right-sound n c =
+    let low = and-left (leb 2 n) (leb n nodesMost) c in
+    let high = and-right (leb 2 n) (leb n nodesMost) c in
+    fresh-sound n (leb-true 2 n low) (leb-true n nodesMost high)
 
 -- a run over a table of the wrong length, and of the right one
-pub run-wrong : (t s : List ℕ) → (length t ≡ tableWords → ⊥) → (Bad 0 1 ≡ runOutcome t s) × (t ≡ runAfter t s)
+pub run-wrong : (t s : List ℕ) → (length t ≡ tableWords → ⊥) → Ran s t (Bad 0 1) t
 unfolding runOutcome runAfter
 run-wrong t s h =
     let e = ne-eqb (length t) tableWords h in
-    (rw e, rw e)
+    record { outcome = rw e; table = rw e }
 
 pub run-right : (t s : List ℕ) → length t ≡ tableWords → (replayed s ≡ runOutcome t s) × (replayAfter t s ≡ runAfter t s)
 unfolding runOutcome runAfter
@@ -193,26 +205,28 @@ rest-whole n y = go (y .badNumber)
         rw (a, b)
     go (suc j) = refl
 
-pub run-begun : (t s : List ℕ) {n next : ℕ} → length t ≡ tableWords → nextAt s 0 1 ≡ BeginAt n next → countRight n ≡ true
-    → (restOutcome n 0 0 (fresh n) (stepsFrom (length s) s next 2) ≡ runOutcome t s) × (afterAll (fresh n) (stepsFrom (length s) s next 2 .steps) ≡ runAfter t s)
+pub run-begun : (t s : List ℕ) {n next : ℕ} {r : Outcome} {t′ : List ℕ} → length t ≡ tableWords → nextAt s 0 1 ≡ BeginAt n next → countRight n ≡ true
+    → RanFrom s next n (fresh n) r t′ → Ran s t r t′
 unfolding replayed replayAfter
-run-begun t s {n} {next} l e c =
+run-begun t s {n} {next} l e c x =
     let j = begin-is s e in
     let w = run-right t s l in
-    let low : 2 ≤ n = leb-true 2 n (and-left (leb 2 n) (leb n nodesMost) c) in (
-      rest-whole n (stepsFrom (length s) s next 2) ∙ sym (ap (λ (x : Journal). outcomeOf (x .rest .badNumber) x) j) ∙ w .0,
-      ap (λ (u : List ℕ). afterAll u (stepsFrom (length s) s next 2 .steps)) (sym (started n t (omega arith))) ∙
-          sym (ap (λ (x : Journal). afterAll (startedFrom (x .n) t) (x .rest .steps)) j) ∙
-          w .1,
-    )
+    let low : 2 ≤ n = leb-true 2 n (and-left (leb 2 n) (leb n nodesMost) c) in
+    record {
+      outcome = x .outcome ∙ rest-whole n (stepsFrom (length s) s next 2) ∙ sym (ap (λ (y : Journal). outcomeOf (y .rest .badNumber) y) j) ∙ w .0;
+      table =
+          x .table ∙ ap (λ (u : List ℕ). afterAll u (stepsFrom (length s) s next 2 .steps)) (sym (started n t (omega arith))) ∙
+          sym (ap (λ (y : Journal). afterAll (startedFrom (y .n) t) (y .rest .steps)) j) ∙ w .1;
+    }
 
-pub run-broken : (t s : List ℕ) {k : ℕ} → length t ≡ tableWords → journal s ≡ record { n = 0; rest = broken 1 k } → 0 < k → (Bad 1 k ≡ runOutcome t s) × (t ≡ runAfter t s)
+pub run-broken : (t s : List ℕ) {k : ℕ} → length t ≡ tableWords → journal s ≡ record { n = 0; rest = broken 1 k } → 0 < k → Ran s t (Bad 1 k) t
 unfolding replayed replayAfter
 run-broken t s {k} l j h =
-    let w = run-right t s l in (
-      bad k h ∙ sym (ap (λ (x : Journal). outcomeOf (x .rest .badNumber) x) j) ∙ w .0,
-      sym (after-none t) ∙ sym (ap (λ (x : Journal). afterAll (startedFrom (x .n) t) (x .rest .steps)) j) ∙ w .1,
-    )
+    let w = run-right t s l in
+    record {
+      outcome = bad k h ∙ sym (ap (λ (x : Journal). outcomeOf (x .rest .badNumber) x) j) ∙ w .0;
+      table = sym (after-none t) ∙ sym (ap (λ (x : Journal). afterAll (startedFrom (x .n) t) (x .rest .steps)) j) ∙ w .1;
+    }
   where
     bad : (i : ℕ) → 0 < i → Bad 1 i ≡ outcomeOf i (record { n = 0; rest = broken 1 i })
     bad zero z = absurd (omega arith)

@@ -21,9 +21,9 @@ use Rattle.meaning.proofs.PlaceLaws.{place-none}
 use Rattle.meaning.proofs.StepLaws.{after-count, fresh-count}
 use Rattle.meaning.proofs.JournalLaws.{refused-numbered}
 use Rattle.meaning.proofs.AccountJournals.{begin-right, started}
-use Rattle.text.specs.Text.{textMost, hasNodes, textFor}
-use Rattle.text.proofs.Writing.{text-whole}
-use Rattle.run.specs.Run.{journalMost, runOutcome, runAfter, textWritten, tableLeft}
+use Rattle.text.specs.Text.{Shown, textMost, hasNodes, textFor}
+use Rattle.text.proofs.Lines.{text-values}
+use Rattle.run.specs.Run.{journalMost, Ran, RunTold, Replayed, textWritten, tableLeft}
 use Rattle.run.proofs.Running.{begin-is, act-is, refused-is, end-is, run-right}
 
 -- no step changes the count
@@ -50,7 +50,8 @@ from-fresh t s c =
     ap (λ (u : List ℕ). afterAll u (journal s .rest .steps)) (started (journal s .n) t (omega arith))
 
 -- the table that a run leaves has the words to print
-nodes-of : (b : ℕ) (j : Journal) (t : List ℕ) → length t ≡ tableWords → ((countRight (j .n) ≡ true) × (count t ≡ j .n)) ⊎ (0 < b) → hasNodes (outcomeOf b j) t ≡ true
+nodes-of : (b : ℕ) (j : Journal) (t : List ℕ) → length t ≡ tableWords → ((countRight (j .n) ≡ true) × (count t ≡ j .n)) ⊎ (0 < b)
+    → hasNodes (outcomeOf b j) t ≡ true
 nodes-of zero j t l (inl p) =
     let high : j .n ≤ nodesMost = leb-true (j .n) nodesMost (and-right (leb 2 (j .n)) (leb (j .n) nodesMost) (p .0)) in
     rw (eq-eqb (length t) tableWords l, p .1, le-leb (j .n) nodesMost high)
@@ -61,7 +62,8 @@ run-nodes : (t s : List ℕ) → length (replayAfter t s) ≡ tableWords → has
 unfolding replayed
 run-nodes t s l = nodes-of (journal s .rest .badNumber) (journal s) (replayAfter t s) l (go (begun-or-bad s))
   where
-    go : (countRight (journal s .n) ≡ true) ⊎ (0 < journal s .rest .badNumber) → ((countRight (journal s .n) ≡ true) × (count (replayAfter t s) ≡ journal s .n)) ⊎ (0 < journal s .rest .badNumber)
+    go : (countRight (journal s .n) ≡ true) ⊎ (0 < journal s .rest .badNumber)
+        → ((countRight (journal s .n) ≡ true) × (count (replayAfter t s) ≡ journal s .n)) ⊎ (0 < journal s .rest .badNumber)
     go (inl c) = inl (c, ap count (from-fresh t s c) ∙ count-all (fresh (journal s .n)) (journal s .rest .steps) ∙ fresh-count (journal s .n))
     go (inr h) = inr h
 
@@ -80,48 +82,56 @@ run-text t s = same-text (journal s .rest .badNumber) (journal s) (replayAfter t
     go (inl c) = inl (from-fresh t s c ∙ sym (from-fresh [] s c))
     go (inr h) = inr h
 
+-- a text written from place 0, by another name; nothing written
+as-text : {out out′ : List ℕ} {r : ℕ} {xs ys : List ℕ} → xs ≡ ys → Shown out xs r out′ → Shown out ys r out′
+as-text {out = out} e x =
+    record { long = x .long ∙ ap length e; is = x .is ∙ ap (λ (zs : List ℕ). place 0 zs out) e; fits = x .fits; most = x .most }
+
+no-text : (out : List ℕ) {ys : List ℕ} → [] ≡ ys → Shown out ys 0 out
+no-text out e = as-text e (record { long = refl; is = sym (place-none 0 out); fits = omega arith; most = omega arith })
+
 -- what `show` writes after a run is what the program prints
-pub told-text : (out t s : List ℕ) (x : Outcome) (t′ : List ℕ) → length t ≡ tableWords → textMost ≤ length out → x ≡ runOutcome t s → t′ ≡ runAfter t s → length t′ ≡ tableWords
-    → (textFor out x t′ ≡ printed (replayed s) (replayAfter [] s)) × (t′ ≡ replayAfter t s)
-told-text out t s x t′ l room e f l′ =
-    let w = run-right t s l in
-    let is : t′ ≡ replayAfter t s = f ∙ sym (w .1) in
-    let o : x ≡ replayed s = e ∙ sym (w .0) in
-    let long : length (replayAfter t s) ≡ tableWords = sym (ap length is) ∙ l′ in
-    (rw (o, is) (sym (text-whole out (replayed s) (replayAfter t s) room (run-nodes t s long)) ∙ run-text t s), is)
+module _ (s t out : List ℕ) {x : Outcome} {t′ out′ : List ℕ} {r : ℕ} where
+  pub told-text : length t ≡ tableWords → textMost ≤ length out → Ran s t x t′ → length t′ ≡ tableWords → Shown out (textFor out x t′) r out′
+      → RunTold s t out r t′ out′
+  told-text l room ran l′ d =
+      let w = run-right t s l in
+      let is : t′ ≡ replayAfter t s = ran .table ∙ sym (w .1) in
+      let o : x ≡ replayed s = ran .outcome ∙ sym (w .0) in
+      let long : length (replayAfter t s) ≡ tableWords = sym (ap length is) ∙ l′ in
+      let e : textFor out x t′ ≡ printed (replayed s) (replayAfter [] s) =
+      rw (o, is) (text-values out (replayed s) (replayAfter t s) room (run-nodes t s long) ∙ run-text t s) in
+      record { shown = as-text e d; table = is }
 
 -- nothing written, by the test that led there; too long a journal; any other
-pub replay-none : (s t out : List ℕ) → (length t ≡ tableWords → ⊥) → ([] ≡ textWritten s t out) × (t ≡ tableLeft s t out)
-unfolding textWritten tableLeft
-replay-none s t out h =
-    let e = ne-eqb (length t) tableWords h in
-    (rw e, rw e)
+module _ (s t out : List ℕ) where
+  pub replay-none : (length t ≡ tableWords → ⊥) → Replayed s t out 0 t out
+  unfolding textWritten tableLeft
+  replay-none h =
+      let e = ne-eqb (length t) tableWords h in
+      record { shown = no-text out (rw e); table = rw e }
 
-pub replay-short : (s t out : List ℕ) → length t ≡ tableWords → length out < textMost → ([] ≡ textWritten s t out) × (t ≡ tableLeft s t out)
-unfolding textWritten tableLeft
-replay-short s t out l h =
-    let e = eq-eqb (length t) tableWords l in
-    let f = lt-leb textMost (length out) h in
-    (rw (e, f), rw (e, f))
+  pub replay-short : length t ≡ tableWords → length out < textMost → Replayed s t out 0 t out
+  unfolding textWritten tableLeft
+  replay-short l h =
+      let e = eq-eqb (length t) tableWords l in
+      let f = lt-leb textMost (length out) h in
+      record { shown = no-text out (rw (e, f)); table = rw (e, f) }
 
-pub replay-long : (s t out : List ℕ) → length t ≡ tableWords → textMost ≤ length out → journalMost < length s → (textFor out (Bad 0 16) t ≡ textWritten s t out) × (t ≡ tableLeft s t out)
-unfolding textWritten tableLeft replayText printed
-replay-long s t out l room h =
-    let e = eq-eqb (length t) tableWords l in
-    let f = le-leb textMost (length out) room in
-    (sym (text-whole out (Bad 0 16) t room refl) ∙ rw (e, f, lt-ltb journalMost (length s) h), rw (e, f, lt-leb (length s) journalMost h))
+  pub replay-long : {r : ℕ} {out′ : List ℕ} → length t ≡ tableWords → textMost ≤ length out → journalMost < length s
+      → Shown out (textFor out (Bad 0 16) t) r out′ → Replayed s t out r t out′
+  unfolding textWritten tableLeft replayText printed
+  replay-long l room h d =
+      let e = eq-eqb (length t) tableWords l in
+      let f = le-leb textMost (length out) room in
+      let is : textFor out (Bad 0 16) t ≡ textWritten s t out = text-values out (Bad 0 16) t room refl ∙ rw (e, f, lt-ltb journalMost (length s) h) in
+      record { shown = as-text is d; table = rw (e, f, lt-leb (length s) journalMost h) }
 
-pub replay-right : (s t out : List ℕ) → length t ≡ tableWords → textMost ≤ length out → length s ≤ journalMost
-    → (printed (replayed s) (replayAfter [] s) ≡ textWritten s t out) × (replayAfter t s ≡ tableLeft s t out)
-unfolding textWritten tableLeft replayText
-replay-right s t out l room h =
-    let e = eq-eqb (length t) tableWords l in
-    let f = le-leb textMost (length out) room in
-    (rw (e, f, le-ltb journalMost (length s) h), rw (e, f, le-leb (length s) journalMost h))
-
--- a text written from place 0, by another name; nothing written
-pub as-text : (t : List ℕ) {t′ : List ℕ} {r : ℕ} {xs ys : List ℕ} → xs ≡ ys → r ≡ length xs → t′ ≡ place 0 xs t → (r ≡ length ys) × (t′ ≡ place 0 ys t)
-as-text t e p q = (p ∙ ap length e, q ∙ ap (λ (zs : List ℕ). place 0 zs t) e)
-
-pub no-text : (t : List ℕ) {ys : List ℕ} → [] ≡ ys → (0 ≡ length ys) × (t ≡ place 0 ys t)
-no-text t e = as-text t {xs = []} e refl (sym (place-none 0 t))
+  pub replay-right : {r : ℕ} {t′ out′ : List ℕ} → length t ≡ tableWords → textMost ≤ length out → length s ≤ journalMost
+      → RunTold s t out r t′ out′ → Replayed s t out r t′ out′
+  unfolding textWritten tableLeft replayText
+  replay-right l room h d =
+      let e = eq-eqb (length t) tableWords l in
+      let f = le-leb textMost (length out) room in
+      let is : printed (replayed s) (replayAfter [] s) ≡ textWritten s t out = rw (e, f, le-ltb journalMost (length s) h) in
+      record { shown = as-text is (d .shown); table = d .table ∙ rw (e, f, le-leb (length s) journalMost h) }

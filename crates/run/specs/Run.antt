@@ -1,16 +1,19 @@
 -- What a run of a journal over a lent table answers and leaves, for every list of words. Document 01, "Frames and journals".
+use mathlib.Core.Path.{_≡_}
 use mathlib.Core.Bool.{Bool, _&&_, cond}
-use mathlib.Core.List.{List, []}
-use Prim.Native.Nat.{ℕ, zero, suc, _+_}
+use mathlib.Core.List.{List, [], _∷_}
+use Prim.Native.Nat.{ℕ, zero, suc, _+_, _≤_}
 use lib.ListN.{length}
 use lib.Dec.{leb, eqb}
 use Rattle.meaning.specs.declared.Outcome.{Outcome}
 use Rattle.meaning.specs.declared.Outcome.the-variants.{Bad, Done}
 use Rattle.meaning.specs.declared.Reply.{Reply}
 use Rattle.meaning.specs.declared.Reply.the-variants.{Written, Carried, Purged, Refused}
-use Rattle.meaning.specs.Table.{tableWords}
-use Rattle.meaning.specs.Journals.{Steps, refusedOf, replayed, replayAfter, replayText}
-use Rattle.text.specs.Text.{textMost}
+use Rattle.meaning.specs.declared.Action.{Action}
+use Rattle.meaning.specs.Table.{tableWords, fresh, Sound}
+use Rattle.meaning.specs.Steps.{refusal, after}
+use Rattle.meaning.specs.Journals.{Steps, Journal, oneIf, stepsFrom, afterAll, refusedOf, replayed, replayAfter, printed, replayText}
+use Rattle.text.specs.Text.{Shown, textMost}
 
 -- A table of the wrong length has no room for a fresh one: refusal 1, of no line, and no word is changed.
 unfoldable pub runOutcome : List ℕ → List ℕ → Outcome
@@ -34,6 +37,11 @@ endedBy (suc k) n steps refused t x = Bad (x .badLine) (suc k)
 unfoldable pub restOutcome : ℕ → ℕ → ℕ → List ℕ → Steps → Outcome
 restOutcome n steps refused t x = endedBy (x .badNumber) n steps refused t x
 
+-- Document 01's values of a journal's replay, where b is the refused line's number: that line and number, or two zeros and the three counts
+abbrev pub journalValues : ℕ → Journal → List ℕ
+journalValues zero j = 0 ∷ 0 ∷ j .n ∷ length (j .rest .steps) ∷ refusedOf (fresh (j .n)) (j .rest .steps) ∷ []
+journalValues (suc b) j = j .rest .badLine ∷ suc b ∷ []
+
 -- "Number 16, only from the program: the journal exceeds 65,536 bytes."
 abbrev pub journalMost : ℕ
 journalMost = 65536
@@ -49,3 +57,32 @@ textWritten s t out = cond (roomy t out) (replayText s) []
 -- The table afterwards: as it was where nothing is written or the journal is too long
 unfoldable pub tableLeft : List ℕ → List ℕ → List ℕ → List ℕ
 tableLeft s t out = cond (roomy t out && leb (length s) journalMost) (replayAfter t s) t
+
+-- What each function answers and leaves.
+-- One step on a sound table: 1 where it is refused, else 0, and the table, which stays sound
+pub record Stepped (t : List ℕ) (x : Action) (k : ℕ) (t′ : List ℕ) : Type 0 where
+  pub counts : k ≡ oneIf (refusal t x)
+  pub leaves : t′ ≡ after t x
+  pub isSound : Sound t′
+  pub one : k ≤ 1
+
+-- The steps of a journal from a place on, applied to a table of n nodes
+pub record RanFrom (s : List ℕ) (from n : ℕ) (t : List ℕ) (r : Outcome) (t′ : List ℕ) : Type 0 where
+  pub outcome : r ≡ restOutcome n 0 0 t (stepsFrom (length s) s from 2)
+  pub table : t′ ≡ afterAll t (stepsFrom (length s) s from 2 .steps)
+
+-- A whole journal over a lent table
+pub record Ran (s t : List ℕ) (r : Outcome) (t′ : List ℕ) : Type 0 where
+  pub outcome : r ≡ runOutcome t s
+  pub table : t′ ≡ runAfter t s
+
+-- A text of length r is written into the lent bytes, and a table is left
+pub record Told (text left out : List ℕ) (r : ℕ) (t′ out′ : List ℕ) : Type 0 where
+  pub shown : Shown out text r out′
+  pub table : t′ ≡ left
+
+abbrev pub RunTold : (s t out : List ℕ) (r : ℕ) (t′ out′ : List ℕ) → Type 0
+RunTold s t out = Told (printed (replayed s) (replayAfter [] s)) (replayAfter t s) out
+
+abbrev pub Replayed : (s t out : List ℕ) (r : ℕ) (t′ out′ : List ℕ) → Type 0
+Replayed s t out = Told (textWritten s t out) (tableLeft s t out) out

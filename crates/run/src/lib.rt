@@ -4,13 +4,9 @@ ghost use mathlib.Core.Path.{_≡_};
 ghost use Prim.Native.Nat.{_≤_, _<_};
 ghost use lib.ListN.{length};
 ghost use mathlib.Core.Bool.{true};
-ghost use mathlib.Core.List.{[]};
-ghost use Rattle.meaning.specs.Table.{tableWords, countRight, place, freshRefusal, madeFresh};
-ghost use Rattle.meaning.specs.Steps.{refusal, reply, after};
-ghost use Rattle.meaning.specs.Journals.{oneIf, stepsFrom, afterAll, replayed, replayAfter, printed};
-ghost use Rattle.meaning.proofs.TableLaws.{Sound};
+ghost use Rattle.meaning.specs.Table.{tableWords, countRight, Sound};
 ghost use Rattle.text.specs.Text.{textMost};
-ghost use Rattle.run.specs.Run.{restOutcome, refusedBy, runOutcome, runAfter, textWritten, tableLeft};
+ghost use Rattle.run.specs.Run.{refusedBy, Stepped, RanFrom, Ran, RunTold, Replayed};
 use layout::TABLE_WORDS;
 use meaning::Next;
 use meaning::Outcome;
@@ -36,7 +32,7 @@ fn count(r: Reply) -> usize
 // One step on a sound table, which it leaves sound: whether it was refused.
 fn step(t: &mut [u32], x: Step) -> usize
     requires { ⌜ Sound (now t) ⌝ }
-    ensures { λ k. ⌜ (k ≡ oneIf (refusal (now (t .entry)) (x .action))) × (now (t .exit) ≡ after (now (t .entry)) (x .action)) × Sound (now (t .exit)) × (k ≤ 1) ⌝ }
+    ensures { λ k. ⌜ Stepped (now (t .entry)) (x .action) k (now (t .exit)) ⌝ }
 {
     let action = x.action;
     let r = table::apply_sound(t, action);
@@ -46,7 +42,7 @@ fn step(t: &mut [u32], x: Step) -> usize
 // The steps from a place on, up to the journal's end or the first refused line.
 fn steps(s: &[u8], from: usize, n: u32, t: &mut [u32]) -> Outcome
     requires { ⌜ Sound (now t) × (0 < from) × (from ≤ length (now s)) ⌝ }
-    ensures { λ r. ⌜ (r ≡ restOutcome n 0 0 (now (t .entry)) (stepsFrom (length (now (s .entry))) (now (s .entry)) from 2)) × (now (t .exit) ≡ afterAll (now (t .entry)) (stepsFrom (length (now (s .entry))) (now (s .entry)) from 2 .steps)) ⌝ }
+    ensures { λ r. ⌜ RanFrom (now (s .entry)) from n (now (t .entry)) r (now (t .exit)) ⌝ }
 {
     let mut at = from;
     let mut line = 2;
@@ -78,7 +74,7 @@ fn steps(s: &[u8], from: usize, n: u32, t: &mut [u32]) -> Outcome
 // A start of n nodes: a fresh table, then the steps after its line.
 fn from_start(s: &[u8], from: usize, n: u32, t: &mut [u32]) -> Outcome
     requires { ⌜ (length (now t) ≡ tableWords) × (countRight n ≡ true) × (0 < from) × (from ≤ length (now s)) ⌝ }
-    ensures { λ r. ⌜ (r ≡ restOutcome n 0 0 (Rattle.meaning.specs.Table.fresh n) (stepsFrom (length (now (s .entry))) (now (s .entry)) from 2)) × (now (t .exit) ≡ afterAll (Rattle.meaning.specs.Table.fresh n) (stepsFrom (length (now (s .entry))) (now (s .entry)) from 2 .steps)) ⌝ }
+    ensures { λ r. ⌜ RanFrom (now (s .entry)) from n (Rattle.meaning.specs.Table.fresh n) r (now (t .exit)) ⌝ }
 {
     table::fresh(t, n);
     steps(s, from, n, t)
@@ -87,7 +83,7 @@ fn from_start(s: &[u8], from: usize, n: u32, t: &mut [u32]) -> Outcome
 // "applies its steps to a fresh table; a refused step is counted and passed over. A refused line ends it"
 // The table is the caller's own where the first line is refused, else a fresh one after the steps before the refused line.
 pub fn run(s: &[u8], t: &mut [u32]) -> Outcome
-    ensures { λ r. ⌜ (r ≡ runOutcome (now (t .entry)) (now (s .entry))) × (now (t .exit) ≡ runAfter (now (t .entry)) (now (s .entry))) ⌝ }
+    ensures { λ r. ⌜ Ran (now (s .entry)) (now (t .entry)) r (now (t .exit)) ⌝ }
 {
     if t.len() != TABLE_WORDS {
         return Outcome::Bad { line: 0, number: 1 };
@@ -109,7 +105,7 @@ pub fn run(s: &[u8], t: &mut [u32]) -> Outcome
 // The text of a run's outcome and of the table that it leaves.
 fn told(s: &[u8], t: &mut [u32], out: &mut [u8]) -> usize
     requires { ⌜ (length (now t) ≡ tableWords) × (textMost ≤ length (now out)) ⌝ }
-    ensures { λ r. ⌜ (r ≡ length (printed (replayed (now (s .entry))) (replayAfter [] (now (s .entry))))) × (now (out .exit) ≡ place 0 (printed (replayed (now (s .entry))) (replayAfter [] (now (s .entry)))) (now (out .entry))) × (now (t .exit) ≡ replayAfter (now (t .entry)) (now (s .entry))) × (r ≤ length (now (out .entry))) × (r ≤ textMost) ⌝ }
+    ensures { λ r. ⌜ RunTold (now (s .entry)) (now (t .entry)) (now (out .entry)) r (now (t .exit)) (now (out .exit)) ⌝ }
 {
     let outcome = run(s, t);
     text::show(out, outcome, t)
@@ -117,7 +113,7 @@ fn told(s: &[u8], t: &mut [u32], out: &mut [u8]) -> usize
 
 // What the program prints of a journal, from place 0 of the lent bytes, and its length.
 pub fn replay(s: &[u8], t: &mut [u32], out: &mut [u8]) -> usize
-    ensures { λ r. ⌜ (r ≡ length (textWritten (now (s .entry)) (now (t .entry)) (now (out .entry)))) × (now (out .exit) ≡ place 0 (textWritten (now (s .entry)) (now (t .entry)) (now (out .entry))) (now (out .entry))) × (now (t .exit) ≡ tableLeft (now (s .entry)) (now (t .entry)) (now (out .entry))) × (r ≤ length (now (out .entry))) × (r ≤ textMost) ⌝ }
+    ensures { λ r. ⌜ Replayed (now (s .entry)) (now (t .entry)) (now (out .entry)) r (now (t .exit)) (now (out .exit)) ⌝ }
 {
     if t.len() != TABLE_WORDS {
         return 0;

@@ -1,22 +1,21 @@
 // One action by its fields, on any words at all: what `apply` does with a step, but no step is built in memory and read back. What C calls.
-ghost use mathlib.Core.Path.{_≡_};
 ghost use Rattle.meaning.specs.declared.Action.the-variants.{Write, Session, Purge};
-ghost use Rattle.meaning.specs.Steps.{reply, after};
+ghost use Rattle.looks.specs.Applied.{Applied};
 use meaning::Reply;
 
 // A write: the refusal number, or that it is done; a refusal changes no word.
 pub fn write(t: &mut [u32], node: u8, timestamp: u32, block: u32, verdict: u8) -> Reply
-    ensures { λ r. ⌜ (r ≡ reply (now (t .entry)) (Write node timestamp block verdict)) × (now (t .exit) ≡ after (now (t .entry)) (Write node timestamp block verdict)) ⌝ }
+    ensures { λ r. ⌜ Applied (now (t .entry)) (Write node timestamp block verdict) r (now (t .exit)) ⌝ }
 {
     if !soundness::is_sound(t) {
         return Reply::Refused { number: 1 };
     }
-    actions::write::write(t, node, timestamp, block, verdict)
+    writes::write(t, node, timestamp, block, verdict)
 }
 
 // A session: the refusal number, or what it carried to each side; a refusal changes no word.
 pub fn session(t: &mut [u32], a: u8, b: u8, ca: u32, cb: u32, outcome: u8) -> Reply
-    ensures { λ r. ⌜ (r ≡ reply (now (t .entry)) (Session a b ca cb outcome)) × (now (t .exit) ≡ after (now (t .entry)) (Session a b ca cb outcome)) ⌝ }
+    ensures { λ r. ⌜ Applied (now (t .entry)) (Session a b ca cb outcome) r (now (t .exit)) ⌝ }
 {
     if !soundness::is_sound(t) {
         return Reply::Refused { number: 1 };
@@ -26,10 +25,10 @@ pub fn session(t: &mut [u32], a: u8, b: u8, ca: u32, cb: u32, outcome: u8) -> Re
 
 // A purge: the refusal number, or how many records left; a refusal changes no word.
 pub fn purge(t: &mut [u32], node: u8) -> Reply
-    ensures { λ r. ⌜ (r ≡ reply (now (t .entry)) (Purge node)) × (now (t .exit) ≡ after (now (t .entry)) (Purge node)) ⌝ }
+    ensures { λ r. ⌜ Applied (now (t .entry)) (Purge node) r (now (t .exit)) ⌝ }
 {
     if !soundness::is_sound(t) {
         return Reply::Refused { number: 1 };
     }
-    actions::purge::purge(t, node)
+    purges::purge(t, node)
 }

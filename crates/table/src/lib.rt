@@ -2,14 +2,13 @@
 // The entry points, `fresh`, `apply` and those of `act`, take any words at all; what the crates below them require, they have shown.
 
 ghost use mathlib.Core.Path.{_≡_};
-ghost use Rattle.meaning.specs.Table.{freshRefusal, madeFresh};
-ghost use Rattle.meaning.specs.Steps.{reply, after};
-ghost use Rattle.meaning.proofs.TableLaws.{Sound};
+ghost use Rattle.meaning.specs.Table.{freshRefusal, madeFresh, Sound};
+ghost use Rattle.looks.specs.Applied.{Applied};
 use meaning::Action;
 use meaning::Reply;
 use meaning::Step;
-use rows::row::clear;
-use rows::row::put_word;
+use rows::clear;
+use rows::put_word;
 
 pub mod act;
 
@@ -35,7 +34,7 @@ pub fn fresh(t: &mut [u32], n: u32) -> u32
 // One action on a table that is known to be sound: what `apply` does after its scan, and what a run from a fresh table does at every step.
 pub fn apply_sound(t: &mut [u32], action: Action) -> Reply
     requires { ⌜ Sound (now t) ⌝ }
-    ensures { λ r. ⌜ (r ≡ reply (now (t .entry)) action) × (now (t .exit) ≡ after (now (t .entry)) action) ⌝ }
+    ensures { λ r. ⌜ Applied (now (t .entry)) action r (now (t .exit)) ⌝ }
 {
     match action {
         Action::Write {
@@ -43,7 +42,7 @@ pub fn apply_sound(t: &mut [u32], action: Action) -> Reply
             timestamp,
             block,
             verdict,
-        } => actions::write::write(t, node, timestamp, block, verdict),
+        } => writes::write(t, node, timestamp, block, verdict),
         Action::Session {
             a,
             b,
@@ -51,13 +50,13 @@ pub fn apply_sound(t: &mut [u32], action: Action) -> Reply
             cb,
             outcome,
         } => sessions::session(t, a, b, ca, cb, outcome),
-        Action::Purge { node } => actions::purge::purge(t, node),
+        Action::Purge { node } => purges::purge(t, node),
     }
 }
 
 // One step on any words at all: the refusal number, or what the step reports; a refusal changes no word.
 pub fn apply(t: &mut [u32], step: Step) -> Reply
-    ensures { λ r. ⌜ (r ≡ reply (now (t .entry)) (step .action)) × (now (t .exit) ≡ after (now (t .entry)) (step .action)) ⌝ }
+    ensures { λ r. ⌜ Applied (now (t .entry)) (step .action) r (now (t .exit)) ⌝ }
 {
     if !soundness::is_sound(t) {
         return Reply::Refused { number: 1 };

@@ -1,3 +1,2 @@
-pub mod Writing
-pub mod Decimal
+pub mod Lines
 pub mod OneReply

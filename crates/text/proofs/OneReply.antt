@@ -7,4 +7,4 @@ use Rattle.text.proofs.show.Kinds as show-kinds
 use Rattle.text.proofs.show.Reads as show
 
 pub one-text : OneReply 2 show-kinds.ps show-kinds.r show.Post (λ κs x s. x ∷ now (s .0))
-one-text κs a x y s s' p q = ap₂ _∷_ (p .0 ∙ sym (q .0)) (p .1 ∙ sym (q .1))
+one-text κs a x y s s' p q = ap₂ _∷_ (p .long ∙ sym (q .long)) (p .is ∙ sym (q .is))

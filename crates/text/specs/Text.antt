@@ -1,25 +1,32 @@
--- What writing a text into a lent buffer means, and which outcomes the buffer has room for. Document 01, "Frames and journals": what the replay prints.
+-- The lines of a replay's text, and what is written of it into a lent buffer. Document 01, "Frames and journals": what the replay prints.
 use mathlib.Core.Path.{_≡_}
 use mathlib.Core.Bool.{Bool, true, _&&_, cond}
-use mathlib.Core.List.{List, [], _∷_}
-use Prim.Native.Nat.{ℕ, _+_, _-_, _*_, _≤_}
-use lib.ListN.{length}
+use mathlib.Core.List.{List, [], _∷_, _++_}
+use Prim.Native.Nat.{ℕ, _≤_}
+use lib.ListN.{length, getD}
 use lib.Dec.{leb, eqb}
 use Rattle.meaning.specs.declared.Outcome.{Outcome}
 use Rattle.meaning.specs.declared.Outcome.the-variants.{Bad, Done}
-use Rattle.meaning.specs.Table.{tableWords, nodesMost, count, place}
-use Rattle.meaning.specs.Journals.{printed}
+use Rattle.meaning.specs.Rows.{ascii}
+use Rattle.meaning.specs.Table.{tableWords, nodesMost, count, part, place}
+use Rattle.meaning.specs.Journals.{outcomeValues, spaced, said, nodeLines}
 
--- A text of at most so many bytes was written at a place of the buffer t, which is then t′; r is the place after it.
-pub record Wrote (t : List ℕ) (at : ℕ) (text : List ℕ) (most r : ℕ) (t′ : List ℕ) : Type 0 where
-  pub to : r ≡ at + length text
-  pub within : r ≤ at + most
-  pub is : t′ ≡ place at text t
+-- "`BAD line number`"
+abbrev pub badLine : ℕ → ℕ → List ℕ
+badLine line number = said "BAD" (line ∷ number ∷ []) ++ ascii "\n"
 
--- The number that decimal digits say, the higher ones first, after those already read
-unfoldable pub valueFrom : ℕ → List ℕ → ℕ
-valueFrom v [] = v
-valueFrom v (c ∷ cs) = valueFrom (10 * v + (c - 48)) cs
+-- "the first line is `N`, the count, `STEPS`, all step lines, `REFUSED`, those refused"
+abbrev pub firstLine : ℕ → ℕ → ℕ → List ℕ
+firstLine n steps refused = said "N" (n ∷ []) ++ (said " STEPS" (steps ∷ []) ++ (said " REFUSED" (refused ∷ []) ++ ascii "\n"))
+
+-- a word and the first n entries of the table's row at a place
+abbrev pub saidPart : List ℕ → List ℕ → ℕ → List ℕ
+saidPart word t from = word ++ spaced (part from (count t) t)
+
+-- The text of an outcome by its values: the line and the number of a refused line, or after two zeros the three counts, and then the nodes
+abbrev pub printedOf : List ℕ → List ℕ → List ℕ
+printedOf vs t =
+    cond (eqb (length vs) 2) (badLine (getD vs 0 0) (getD vs 1 0)) (firstLine (getD vs 2 0) (getD vs 3 0) (getD vs 4 0) ++ nodeLines (getD vs 2 0) t)
 
 -- A list of words with a table's length, and a count that its rows have room for
 pub record Nodes (t : List ℕ) : Type 0 where
@@ -35,6 +42,13 @@ abbrev pub hasNodes : Outcome → List ℕ → Bool
 hasNodes (Bad line k) t = true
 hasNodes (Done n steps refused) t = eqb (length t) tableWords && (leb (count t) nodesMost && leb n nodesMost)
 
+-- A text was written from place 0 of the buffer out, which is then out′; r is its length, for which there is room.
+pub record Shown (out text : List ℕ) (r : ℕ) (out′ : List ℕ) : Type 0 where
+  pub long : r ≡ length text
+  pub is : out′ ≡ place 0 text out
+  pub fits : r ≤ length out
+  pub most : r ≤ textMost
+
 -- What is written from place 0: nothing where the buffer is shorter than that room or the table has not the words
 unfoldable pub textFor : List ℕ → Outcome → List ℕ → List ℕ
-textFor out outcome t = cond (leb textMost (length out) && hasNodes outcome t) (printed outcome t) []
+textFor out outcome t = cond (leb textMost (length out) && hasNodes outcome t) (printedOf (outcomeValues outcome) t) []

@@ -1,14 +1,13 @@
-// The printed text of a replay, written into a lent buffer: decimal numbers, words, rows of numbers, one line a node.
+// The printed text of a replay, written into a lent buffer: its first line and one line a node.
 // Document 01, "Frames and journals". Each inner function writes at a place and answers the place after what it wrote.
-ghost use mathlib.Core.Path.{_≡_};
 ghost use mathlib.Core.List.{[], _∷_, _++_};
 ghost use Prim.Native.Nat.{_+_, _*_, _≤_, _<_};
 ghost use lib.ListN.{length};
 ghost use Rattle.meaning.specs.declared.Outcome.{Outcome};
-ghost use Rattle.meaning.specs.Rows.{ascii};
-ghost use Rattle.meaning.specs.Table.{nodesMost, count, held, part, place, node};
-ghost use Rattle.meaning.specs.Journals.{decimalIn, decimal, spaced, said, nodeLine, nodeLines, printed};
-ghost use Rattle.text.specs.Text.{Wrote, Nodes, textMost, textFor};
+ghost use Rattle.meaning.specs.Table.{nodesMost, held, node};
+ghost use Rattle.meaning.specs.Journals.{said, nodeLine, nodeLines};
+ghost use Rattle.printing.specs.Wrote.{Wrote};
+ghost use Rattle.text.specs.Text.{Nodes, Shown, badLine, firstLine, saidPart, textMost, textFor};
 use layout::COUNT_AT;
 use layout::NODES_MOST;
 use layout::TABLE_WORDS;
@@ -17,100 +16,13 @@ use meaning::Outcome;
 // Room for the text of every outcome.
 pub const TEXT_MOST: usize = 12288;
 
-// One byte.
-fn put(out: &mut [u8], at: usize, b: u8) -> usize
-    requires { ⌜ at + 1 ≤ length (now out) ⌝ }
-    ensures { λ r. ⌜ Wrote (now (out .entry)) at (b ∷ []) 1 r (now (out .exit)) ⌝ }
-{
-    out[at] = b;
-    at + 1
-}
-
-// A number in decimal, of at most so many digits, the higher ones first.
-fn digits(out: &mut [u8], at: usize, most: usize, v: usize) -> usize
-    requires { ⌜ at + most ≤ length (now out) ⌝ }
-    ensures { λ r. ⌜ Wrote (now (out .entry)) at (decimalIn most v) most r (now (out .exit)) ⌝ }
-{
-    if most == 0 {
-        return at;
-    }
-    if v < 10 {
-        return put(out, at, (48 + v % 10) as u8);
-    }
-    let end = digits(out, at, most - 1, v / 10);
-    put(out, end, (48 + v % 10) as u8)
-}
-
-// A number in decimal: 20 digits are enough for every one.
-fn number(out: &mut [u8], at: usize, v: usize) -> usize
-    requires { ⌜ at + 20 ≤ length (now out) ⌝ }
-    ensures { λ r. ⌜ Wrote (now (out .entry)) at (decimal v) 20 r (now (out .exit)) ⌝ }
-{
-    digits(out, at, 20, v)
-}
-
-// A number with a space before it.
-fn entry(out: &mut [u8], at: usize, v: usize) -> usize
-    requires { ⌜ at + 21 ≤ length (now out) ⌝ }
-    ensures { λ r. ⌜ Wrote (now (out .entry)) at (spaced (v ∷ [])) 21 r (now (out .exit)) ⌝ }
-{
-    let next = put(out, at, b' ');
-    number(out, next, v)
-}
-
-// A row of numbers, each with a space before it.
-fn row(out: &mut [u8], at: usize, vs: &[u32]) -> usize
-    requires { ⌜ at + 21 * length (now vs) ≤ length (now out) ⌝ }
-    ensures { λ r. ⌜ Wrote (now (out .entry)) at (spaced (now (vs .entry))) (21 * length (now (vs .entry))) r (now (out .exit)) ⌝ }
-{
-    let mut next = at;
-    let mut i = 0;
-    while i < vs.len() {
-        next = entry(out, next, vs[i] as usize);
-        i += 1;
-    }
-    next
-}
-
-// A word, byte for byte.
-fn word(out: &mut [u8], at: usize, w: &[u8]) -> usize
-    requires { ⌜ at + length (now w) ≤ length (now out) ⌝ }
-    ensures { λ r. ⌜ Wrote (now (out .entry)) at (now (w .entry)) (length (now (w .entry))) r (now (out .exit)) ⌝ }
-{
-    let mut next = at;
-    let mut i = 0;
-    while i < w.len() {
-        next = put(out, next, w[i]);
-        i += 1;
-    }
-    next
-}
-
-// A word and one number after it.
-fn said_one(out: &mut [u8], at: usize, w: &[u8], v: usize) -> usize
-    requires { ⌜ at + (length (now w) + 21) ≤ length (now out) ⌝ }
-    ensures { λ r. ⌜ Wrote (now (out .entry)) at (now (w .entry) ++ spaced (v ∷ [])) (length (now (w .entry)) + 21) r (now (out .exit)) ⌝ }
-{
-    let next = word(out, at, w);
-    entry(out, next, v)
-}
-
-// A word and a row of numbers after it.
-fn said_row(out: &mut [u8], at: usize, w: &[u8], vs: &[u32]) -> usize
-    requires { ⌜ at + (length (now w) + 21 * length (now vs)) ≤ length (now out) ⌝ }
-    ensures { λ r. ⌜ Wrote (now (out .entry)) at (now (w .entry) ++ spaced (now (vs .entry))) (length (now (w .entry)) + 21 * length (now (vs .entry))) r (now (out .exit)) ⌝ }
-{
-    let next = word(out, at, w);
-    row(out, next, vs)
-}
-
 // A word and the first n entries of the table's row at a place.
 fn vector(out: &mut [u8], at: usize, w: &[u8], t: &[u32], from: usize) -> usize
     requires { ⌜ Nodes (now t) × (from + nodesMost ≤ length (now t)) × (at + (length (now w) + 336) ≤ length (now out)) ⌝ }
-    ensures { λ r. ⌜ Wrote (now (out .entry)) at (now (w .entry) ++ spaced (part from (count (now (t .entry))) (now (t .entry)))) (length (now (w .entry)) + 336) r (now (out .exit)) ⌝ }
+    ensures { λ r. ⌜ Wrote (now (out .entry)) at (saidPart (now (w .entry)) (now (t .entry)) from) (length (now (w .entry)) + 336) r (now (out .exit)) ⌝ }
 {
     let n = t[COUNT_AT] as usize;
-    said_row(out, at, w, &t[from..from + n])
+    printing::said_row(out, at, w, &t[from..from + n])
 }
 
 // "`L` and the held number"
@@ -119,7 +31,7 @@ fn held_part(out: &mut [u8], at: usize, t: &[u32], p: usize) -> usize
     ensures { λ r. ⌜ Wrote (now (out .entry)) at (said " L" (held (now (t .entry)) p ∷ [])) 23 r (now (out .exit)) ⌝ }
 {
     let from = layout::held_at(p);
-    said_one(out, at, b" L", t[from] as usize)
+    printing::said_one(out, at, b" L", t[from] as usize)
 }
 
 // "one line a node: its number, `S` and n summary entries, `K` and n acknowledgements, `L` and the held number, all decimal"
@@ -127,11 +39,11 @@ fn node_line(out: &mut [u8], at: usize, p: usize, t: &[u32]) -> usize
     requires { ⌜ Nodes (now t) × (p < nodesMost) × (at + 720 ≤ length (now out)) ⌝ }
     ensures { λ r. ⌜ Wrote (now (out .entry)) at (nodeLine p (node (now (t .entry)) p)) 720 r (now (out .exit)) ⌝ }
 {
-    let a = number(out, at, p);
+    let a = printing::number(out, at, p);
     let b = vector(out, a, b" S", t, layout::summary_at(p));
     let c = vector(out, b, b" K", t, layout::acks_at(p));
     let d = held_part(out, c, t, p);
-    put(out, d, b'\n')
+    printing::put(out, d, b'\n')
 }
 
 // The lines of the first n nodes.
@@ -151,28 +63,28 @@ fn node_lines(out: &mut [u8], at: usize, n: usize, t: &[u32]) -> usize
 // "`BAD line number`"
 fn bad_line(out: &mut [u8], line: usize, number: u32) -> usize
     requires { ⌜ textMost ≤ length (now out) ⌝ }
-    ensures { λ r. ⌜ Wrote (now (out .entry)) 0 (said "BAD" (line ∷ number ∷ []) ++ ascii "\n") 46 r (now (out .exit)) ⌝ }
+    ensures { λ r. ⌜ Wrote (now (out .entry)) 0 (badLine line number) 46 r (now (out .exit)) ⌝ }
 {
-    let a = said_one(out, 0, b"BAD", line);
-    let b = entry(out, a, number as usize);
-    put(out, b, b'\n')
+    let a = printing::said_one(out, 0, b"BAD", line);
+    let b = printing::entry(out, a, number as usize);
+    printing::put(out, b, b'\n')
 }
 
 // "`N`, the count, `STEPS`, all step lines, `REFUSED`, those refused"
 fn first_line(out: &mut [u8], n: u32, steps: usize, refused: usize) -> usize
     requires { ⌜ textMost ≤ length (now out) ⌝ }
-    ensures { λ r. ⌜ Wrote (now (out .entry)) 0 (said "N" (n ∷ []) ++ (said " STEPS" (steps ∷ []) ++ (said " REFUSED" (refused ∷ []) ++ ascii "\n"))) 79 r (now (out .exit)) ⌝ }
+    ensures { λ r. ⌜ Wrote (now (out .entry)) 0 (firstLine n steps refused) 79 r (now (out .exit)) ⌝ }
 {
-    let a = said_one(out, 0, b"N", n as usize);
-    let b = said_one(out, a, b" STEPS", steps);
-    let c = said_one(out, b, b" REFUSED", refused);
-    put(out, c, b'\n')
+    let a = printing::said_one(out, 0, b"N", n as usize);
+    let b = printing::said_one(out, a, b" STEPS", steps);
+    let c = printing::said_one(out, b, b" REFUSED", refused);
+    printing::put(out, c, b'\n')
 }
 
 // The text of a replay that came to its end: its first line and the nodes' lines.
 fn all_lines(out: &mut [u8], n: u32, steps: usize, refused: usize, t: &[u32]) -> usize
     requires { ⌜ Nodes (now t) × (n ≤ nodesMost) × (textMost ≤ length (now out)) ⌝ }
-    ensures { λ r. ⌜ Wrote (now (out .entry)) 0 (printed (Outcome.Done n steps refused) (now (t .entry))) textMost r (now (out .exit)) ⌝ }
+    ensures { λ r. ⌜ Wrote (now (out .entry)) 0 (firstLine n steps refused ++ nodeLines n (now (t .entry))) textMost r (now (out .exit)) ⌝ }
 {
     let a = first_line(out, n, steps, refused);
     node_lines(out, a, n as usize, t)
@@ -198,7 +110,7 @@ fn done_text(out: &mut [u8], n: u32, steps: usize, refused: usize, t: &[u32]) ->
 // The text of a replay's outcome and table, from place 0 of the buffer, and its length.
 // Nothing is written into a buffer of less than TEXT_MOST bytes, or where the table has not the words to print.
 pub fn show(out: &mut [u8], outcome: Outcome, t: &[u32]) -> usize
-    ensures { λ r. ⌜ (r ≡ length (textFor (now (out .entry)) outcome (now (t .entry)))) × (now (out .exit) ≡ place 0 (textFor (now (out .entry)) outcome (now (t .entry))) (now (out .entry))) × (r ≤ length (now (out .entry))) × (r ≤ textMost) ⌝ }
+    ensures { λ r. ⌜ Shown (now (out .entry)) (textFor (now (out .entry)) outcome (now (t .entry))) r (now (out .exit)) ⌝ }
 {
     if out.len() < TEXT_MOST {
         return 0;

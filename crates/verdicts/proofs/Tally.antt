@@ -12,6 +12,7 @@ use lib.Dec.{leb}
 use Rattle.meaning.specs.declared.Record.{Record}
 use Rattle.meaning.specs.declared.Class.the-variants.{NotRead, PageCache, PlatterGood, PlatterBad, Repaired}
 use Rattle.meaning.specs.declared.Count.the-variants.{Counted, Refused}
+use Rattle.meaning.specs.Refusals.{first}
 use Rattle.meaning.specs.Rows.{every, keep, keepIf, recordAt, records}
 use Rattle.meaning.specs.Table.{logMost}
 use Rattle.meaning.specs.Verdicts.{classOf, isScrubbed, isTouched, scrubbed, touched, counted, verdictCount}
@@ -87,7 +88,9 @@ kept-less f w k j s s' n b ek eb e before =
     ap (λ (x : ℕ). x + length (keep f (records j w))) e ∙
     go b (rw (ek, add-one, keep-append, keep-one, length-append, ← eb))
   where
-    go : (b : Bool) → length (keep f (records k w)) ≡ length (keep f (records j w)) + length (keepIf b (recordAt w j) []) → cond b (s + 1) s + length (keep f (records j w)) ≡ n
+    go :
+        (b : Bool) → length (keep f (records k w)) ≡ length (keep f (records j w)) + length (keepIf b (recordAt w j) []) → cond b (s + 1) s + length
+        (keep f (records j w)) ≡ n
     go true more = omega arith
     go false more = omega arith
 
@@ -140,7 +143,7 @@ module _ (w : List ℕ) (rows : ℕ) where
     every-byte = h .bytes ∙ rw (every-none)
 
     pub count-wide : 255 < seen → Refused 1 ≡ verdictCount w
-    unfolding verdictCount
+    unfolding verdictCount first
     count-wide wide = rw (whole-refusal w rows whole room, every-byte, lt-leb seen 255 wide)
 
     all-scrubbed : s ≡ scrubbed (records rows w)
@@ -152,7 +155,7 @@ module _ (w : List ℕ) (rows : ℕ) where
     all-touched = let all : t + 0 ≡ touched (records rows w) = h .touch in omega arith
 
     pub count-all : seen ≤ 255 → Counted s t ≡ verdictCount w
-    unfolding verdictCount counted
+    unfolding verdictCount first counted
     count-all low =
         let n : length w / 4 ≡ rows = omega arith in
         rw (whole-refusal w rows whole room, every-byte, le-leb seen 255 low, n, ← all-scrubbed, ← all-touched)

@@ -2,8 +2,9 @@
 //! written out: the library and the model must both say them.
 
 use crate::account::Account;
+use crate::layout::{NODES, WORDS};
 use crate::library::{Calls, Library, TEXT};
-use crate::model::{count, fresh, read, replay, Action, Table, WORDS};
+use crate::model::{count, fresh, read, replay, Action, Table};
 
 fn write(node: u8, timestamp: u32) -> Action {
     Action::Write { node, timestamp, block: 7, verdict: 0x20 }
@@ -50,7 +51,7 @@ fn steps(library: &mut Library, name: &str, mut table: Table, list: &[(Action, [
 fn all_steps(library: &mut Library) -> Result<(), String> {
     let two = || fresh(WORDS, 2).unwrap();
     let mut acknowledged = holding(6);
-    acknowledged.acknowledgements[0] = vec![5; 16];
+    acknowledged.acknowledgements[0] = vec![5; NODES];
     steps(library, "write at 0, 1, 1", two(), &[(write(0, 0), [5, 0, 0]), (write(0, 1), [0, 0, 0]), (write(0, 1), [5, 0, 0])])?;
     steps(library, "0 with 0", two(), &[(session(0, 0, 0, 0, 3), [4, 0, 0]), (write(0, 9), [0, 0, 0]), (session(0, 0, 1, 99, 3), [4, 0, 0])])?;
     steps(library, "node 2, outcome 4", two(), &[(write(2, 1), [3, 0, 0]), (session(0, 2, 1, 1, 3), [3, 0, 0]), (session(2, 2, 1, 1, 4), [2, 0, 0])])?;

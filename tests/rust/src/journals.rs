@@ -1,8 +1,9 @@
 //! Whole journals: those of the scenarios, full ones, damaged ones and random bytes; the text that
 //! replay prints and the table that it leaves.
 
+use crate::layout::{JOURNAL, WORDS};
 use crate::library::{Calls, Library, TEXT};
-use crate::model::{frame, replay, start_frame, JOURNAL, WORDS};
+use crate::model::{frame, replay, start_frame, Action};
 use crate::random::Random;
 use crate::reached::Reached;
 use crate::shrink::shortest;
@@ -34,7 +35,7 @@ pub fn make(seed: u64) -> Vec<u8> {
         bytes.truncate(whole);
         // the last lines are purges, 7 bytes each, until nothing or little is left over
         while bytes.len() + 7 <= JOURNAL {
-            bytes.extend(frame(crate::model::Action::Purge { node: 0 }).unwrap());
+            bytes.extend(frame(Action::Purge { node: 0 }).unwrap());
         }
         let left = JOURNAL - bytes.len();
         let exact = make_exact(&bytes, left);
@@ -49,8 +50,8 @@ pub fn make(seed: u64) -> Vec<u8> {
 /// Puts `left` bytes more into a journal by lengthening purges (7 bytes) into writes (25), so far as
 /// 18 divides; else by leaving purges out and putting a write or session in their place.
 fn make_exact(bytes: &[u8], left: usize) -> Option<Vec<u8>> {
-    let write = frame(crate::model::Action::Write { node: 0, timestamp: 1, block: 0, verdict: 0 }).ok()?;
-    let session = frame(crate::model::Action::Session { a: 0, b: 1, ca: 0, cb: 0, outcome: 0 }).ok()?;
+    let write = frame(Action::Write { node: 0, timestamp: 1, block: 0, verdict: 0 }).ok()?;
+    let session = frame(Action::Session { a: 0, b: 1, ca: 0, cb: 0, outcome: 0 }).ok()?;
     for purges in 0..40 {
         let room = left + 7 * purges;
         for writes in 0..=room / 25 {

@@ -1,7 +1,8 @@
-//! The library under test: lists of calls, run through executor.c, in this process or in another
-//! one that an emulator runs. The one place that knows how calls and answers are written down.
+//! The library under test: lists of calls, run by executor.c in another process, under an emulator
+//! where need be. The one place that knows how calls and answers are written down.
 
-use crate::model::{Action, Frame, WORDS};
+use crate::layout::WORDS;
+use crate::model::{Action, Frame};
 use std::fs::OpenOptions;
 use std::io::{Read, Write};
 use std::os::fd::{AsRawFd, IntoRawFd};
@@ -9,13 +10,8 @@ use std::process::{Child, Command, Stdio};
 
 const HALF: usize = 16 << 20;
 
-/// The room for a replay's text that is always enough, as the header says.
-pub const TEXT: u32 = 12288;
-
-#[cfg(linked)]
-extern "C" {
-    fn execute(calls: *const u32, answers: *mut u32) -> usize;
-}
+/// The room for a replay's text that is always enough.
+pub const TEXT: u32 = crate::layout::TEXT as u32;
 
 extern "C" {
     fn mmap(at: *mut u8, size: usize, prot: i32, flags: i32, file: i32, from: i64) -> *mut u8;
@@ -119,30 +115,14 @@ impl<'a> Answers<'a> {
     }
 }
 
-/// Where the calls are run.
-pub enum Library {
-    #[cfg(linked)]
-    Here(Vec<u32>),
-    There {
-        child: Child,
-        shared: *mut u32,
-        command: Vec<String>,
-    },
+/// The process that runs the calls, and the memory that it shares with this one.
+pub struct Library {
+    child: Child,
+    shared: *mut u32,
+    command: Vec<String>,
 }
 
 impl Library {
-    #[cfg(linked)]
-    pub fn here() -> Library {
-        Library::Here(vec![0; HALF / 4])
-    }
-
-    /// Without a library of its own the program needs one to call.
-    #[cfg(not(linked))]
-    pub fn here() -> Library {
-        eprintln!("built without the library: --through PROGRAM is needed");
-        std::process::exit(2)
-    }
-
     /// Has the words of `command`, with the path of a shared file after them, answer.
     pub fn through(command: &[String]) -> std::io::Result<Library> {
         let path = std::env::temp_dir().join(format!("pollencart-{}", std::process::id()));
@@ -154,7 +134,7 @@ impl Library {
         // the file has no name, but the other process finds it here for as long as this one runs
         let place = format!("/proc/{}/fd/{}", std::process::id(), file.into_raw_fd());
         let command = [command, &[place]].concat();
-        let mut library = Library::There { child: spawn(&command)?, shared, command };
+        let mut library = Library { child: spawn(&command)?, shared, command };
         library.run(&Calls::default()).ok_or(std::io::Error::other("it ended"))?;
         Ok(library)
     }
@@ -162,27 +142,16 @@ impl Library {
     /// Runs the calls. None: the process that ran them died; another one runs the next.
     pub fn run(&mut self, calls: &Calls) -> Option<Answers<'_>> {
         assert!(calls.0.len() < HALF / 4);
-        match self {
-            #[cfg(linked)]
-            Library::Here(room) => {
-                let mut ended = calls.0.clone();
-                ended.push(0);
-                let many = unsafe { execute(ended.as_ptr(), room.as_mut_ptr()) };
-                Some(Answers(&room[..many]))
-            }
-            Library::There { child, shared, command } => {
-                unsafe {
-                    std::ptr::copy_nonoverlapping(calls.0.as_ptr(), *shared, calls.0.len());
-                    *shared.add(calls.0.len()) = 0;
-                }
-                let Ok(many) = ask(child) else {
-                    let _ = child.wait();
-                    *child = spawn(command).expect("it was started before");
-                    return None;
-                };
-                Some(Answers(unsafe { std::slice::from_raw_parts(shared.add(HALF / 4), many) }))
-            }
+        unsafe {
+            std::ptr::copy_nonoverlapping(calls.0.as_ptr(), self.shared, calls.0.len());
+            *self.shared.add(calls.0.len()) = 0;
         }
+        let Ok(many) = ask(&mut self.child) else {
+            let _ = self.child.wait();
+            self.child = spawn(&self.command).expect("it was started before");
+            return None;
+        };
+        Some(Answers(unsafe { std::slice::from_raw_parts(self.shared.add(HALF / 4), many) }))
     }
 }
 

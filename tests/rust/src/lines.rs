@@ -1,5 +1,6 @@
 //! Lines, frames and verdict lists: valid ones, damaged ones and random bytes, on both sides.
 
+use crate::layout::COUNTS;
 use crate::library::{Answers, Calls, Library};
 use crate::model::{count, fields, frame, read, start_frame, Action, Frame};
 use crate::random::Random;
@@ -113,7 +114,7 @@ fn compare_line(line: &[u8], answers: &mut Answers, reached: &mut Reached) -> Re
 /// Compares a frame's writer: the refusal, the length and every lent byte.
 fn compare_frame(what: Frame, room: usize, answers: &mut Answers, reached: &mut Reached) -> Result<(), String> {
     let (name, made) = match what {
-        Frame::Start(n) => ("start", if (2..=16).contains(&n) { Ok(start_frame(n)) } else { Err(15) }),
+        Frame::Start(n) => ("start", if COUNTS.contains(&n.into()) { Ok(start_frame(n)) } else { Err(15) }),
         Frame::Step(action) => {
             let name = match action {
                 Action::Write { .. } => "write",

@@ -5,6 +5,7 @@
 mod account;
 mod edges;
 mod journals;
+mod layout;
 mod library;
 mod lines;
 mod model;
@@ -35,7 +36,7 @@ struct Wanted {
 }
 
 fn usage() -> ! {
-    eprintln!("compare [--times K] [--steps N] [--lines N] [--journals N] [--from SEED] [--only steps|lines|journals SEED] [--no-edges] [--through PROGRAM WORDS.. | --program REPLAY WORDS..]");
+    eprintln!("compare [--times K] [--steps N] [--lines N] [--journals N] [--from SEED] [--only steps|lines|journals SEED] [--no-edges] --through PROGRAM WORDS.. | --program REPLAY WORDS..");
     std::process::exit(2)
 }
 
@@ -85,14 +86,13 @@ fn main() {
     if !wanted.program.is_empty() {
         return programs(&wanted);
     }
-    let mut library = if wanted.through.is_empty() {
-        Library::here()
-    } else {
-        Library::through(&wanted.through).unwrap_or_else(|fault| {
-            eprintln!("the program of --through does not answer: {fault}");
-            std::process::exit(2)
-        })
-    };
+    if wanted.through.is_empty() {
+        usage()
+    }
+    let mut library = Library::through(&wanted.through).unwrap_or_else(|fault| {
+        eprintln!("the program of --through does not answer: {fault}");
+        std::process::exit(2)
+    });
     let mut reached = Reached::default();
     if let Some((kind, seed)) = &wanted.only {
         let (name, run) = KINDS.into_iter().find(|k| k.0 == kind).unwrap_or_else(|| usage());
@@ -107,7 +107,7 @@ fn main() {
     for ((name, run), many) in KINDS.into_iter().zip([wanted.steps, wanted.lines, wanted.journals]) {
         let (began, mut done, mut seed) = (Instant::now(), 0, wanted.first);
         while done < many {
-            let did = guarded(name, seed, || run(&mut library, seed, &mut reached)).unwrap_or_else(|told| fail(name, &told));
+            let did = run(&mut library, seed, &mut reached).unwrap_or_else(|told| fail(name, &told));
             done += if name == "journals" { 1 } else { did };
             seed += 1;
         }
@@ -138,31 +138,4 @@ fn programs(wanted: &Wanted) {
     }
     println!("{} journals through the program, no difference, {:.1} s", wanted.journals + edges::JOURNALS.len(), began.elapsed().as_secs_f64());
     reached.report();
-}
-
-extern "C" {
-    fn signal(number: i32, handler: extern "C" fn(i32)) -> usize;
-    fn write(file: i32, bytes: *const u8, many: usize) -> isize;
-    fn _exit(status: i32) -> !;
-}
-
-static mut NOW: [u8; 96] = [0; 96];
-
-/// Says which seed a library that touches a guard page was killed in.
-extern "C" fn killed(_: i32) {
-    unsafe {
-        let now = &raw const NOW;
-        write(1, now.cast(), 96);
-        _exit(1)
-    }
-}
-
-fn guarded<T>(kind: &str, seed: u64, run: impl FnOnce() -> T) -> T {
-    let text = format!("{:<95}\n", format!("KILLED: the library touched memory that it was not lent: --only {kind} {seed}"));
-    unsafe {
-        std::ptr::copy_nonoverlapping(text.as_ptr(), (&raw mut NOW).cast(), 96);
-        signal(11, killed);
-        signal(7, killed);
-    }
-    run()
 }

@@ -3,12 +3,8 @@
 //! It was written from that document alone and shares nothing with the proved code.
 #![allow(dead_code)]
 
+use crate::layout::{COUNTS, JOURNAL, NODES, RECORD, ROOM, WORDS};
 use std::fmt::Write as _;
-
-pub const WORDS: usize = 4625;
-pub const NODES: usize = 16;
-pub const ROOM: usize = 64;
-pub const JOURNAL: usize = 65_536;
 
 /// One finding: a row of a log.
 #[derive(Clone, Copy, PartialEq, Eq, Debug, Default)]
@@ -55,7 +51,7 @@ pub enum Frame {
 
 /// "Making one is refused with 1 if the count or the length is wrong."
 pub fn fresh(length: usize, count: u32) -> Result<Table, u32> {
-    if length != WORDS || !(2..=16).contains(&count) {
+    if length != WORDS || !COUNTS.contains(&count) {
         return Err(1);
     }
     Ok(Table {
@@ -83,7 +79,7 @@ impl Table {
         let summaries = (0..NODES).map(|_| take(NODES).to_vec()).collect();
         let acknowledgements = (0..NODES).map(|_| take(NODES).to_vec()).collect();
         let held = take(NODES).to_vec();
-        let logs = (0..NODES).map(|_| take(ROOM * 4).chunks(4).map(|w| Record { origin: w[0], timestamp: w[1], block: w[2], verdict: w[3] }).collect()).collect();
+        let logs = (0..NODES).map(|_| take(ROOM * RECORD).chunks(RECORD).map(|w| Record { origin: w[0], timestamp: w[1], block: w[2], verdict: w[3] }).collect()).collect();
         Some(Table { count, summaries, acknowledgements, held, logs })
     }
 
@@ -116,7 +112,7 @@ impl Table {
 
     /// "A table is sound if .." (the length is right already).
     pub fn sound(&self) -> bool {
-        (2..=16).contains(&self.count) && (0..self.n()).all(|p| self.held[p] as usize <= ROOM && self.log(p).iter().all(|r| r.origin < self.count && r.verdict <= 255))
+        COUNTS.contains(&self.count) && (0..self.n()).all(|p| self.held[p] as usize <= ROOM && self.log(p).iter().all(|r| r.origin < self.count && r.verdict <= 255))
     }
 
     /// The starting summary and acknowledgement row of a session's side.
@@ -233,15 +229,15 @@ impl Table {
 
 /// Scrubbed and touched over a list of words, or refusal 1.
 pub fn count(words: &[u32]) -> Result<(u32, u32), u32> {
-    if words.len() % 4 != 0 || words.len() > 4 * ROOM || words.chunks(4).any(|r| r[3] > 255) {
+    if words.len() % RECORD != 0 || words.len() > RECORD * ROOM || words.chunks(RECORD).any(|r| r[3] > 255) {
         return Err(1);
     }
-    let among = |low, high| words.chunks(4).filter(|r| r[3] >= low && r[3] <= high).count() as u32;
+    let among = |low, high| words.chunks(RECORD).filter(|r| r[3] >= low && r[3] <= high).count() as u32;
     Ok((among(0x10, 0x4F), among(0x20, 0x4F)))
 }
 
 /// The bytes of a frame with their check byte, as a line with its LF.
-fn line_of(bytes: &[u8]) -> Vec<u8> {
+pub fn line_of(bytes: &[u8]) -> Vec<u8> {
     let sum = bytes.iter().fold(0u8, |s, b| s.wrapping_add(*b));
     let mut text = String::new();
     for byte in bytes.iter().chain([0u8.wrapping_sub(sum)].iter()) {
@@ -308,7 +304,7 @@ pub fn read(line: &[u8]) -> Result<Frame, u32> {
     if bytes.iter().fold(0u8, |s, b| s.wrapping_add(*b)) != 0 {
         return Err(13);
     }
-    if matches!(frame, Frame::Start(n) if !(2..=16).contains(&n)) {
+    if matches!(frame, Frame::Start(n) if !COUNTS.contains(&n.into())) {
         return Err(15);
     }
     Ok(frame)

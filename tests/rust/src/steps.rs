@@ -2,8 +2,9 @@
 //! by word, with the account of demand 3 beside them.
 
 use crate::account::Account;
+use crate::layout::{place, record_at, ACKNOWLEDGEMENTS, COUNTS, HELD, LOGS, NODES, RECORD, ROOM, SUMMARIES, WORDS};
 use crate::library::{Calls, Library, BATCH};
-use crate::model::{count, fresh, Action, Table, ROOM, WORDS};
+use crate::model::{count, fresh, Action, Table};
 use crate::random::Random;
 use crate::reached::Reached;
 use crate::shrink::shortest;
@@ -43,12 +44,6 @@ pub enum Style {
 const STYLES: [Style; 11] =
     [Style::Gossip, Style::Full, Style::Lagging, Style::Largest, Style::Wild, Style::Edges, Style::Cut, Style::Drain, Style::Damaged, Style::Arbitrary, Style::WrongLength];
 
-/// Where the parts stand, for the damage.
-const SUMMARY: u32 = 1;
-const ACKNOWLEDGEMENT: u32 = 257;
-const HELD: u32 = 513;
-const LOG: u32 = 529;
-
 /// Makes the scenario of a seed. Its events aim at the model's own table, which runs along.
 pub fn make(seed: u64) -> Scenario {
     let mut rng = Random::new(seed);
@@ -62,7 +57,7 @@ pub fn make(seed: u64) -> Scenario {
     let n = if rng.percent(40) || style == Style::Drain { n.min(4) } else { n };
     let words = first_words(&mut rng, style, n);
     let mut table = Table::from_words(&words);
-    let mut maker = Maker { clocks: (0..16).map(|_| rng.below(40)).collect(), mended: None, turn: 0, style, rng };
+    let mut maker = Maker { clocks: (0..NODES).map(|_| rng.below(40)).collect(), mended: None, turn: 0, style, rng };
     let mut events = Vec::new();
     if !matches!(style, Style::Arbitrary | Style::WrongLength) {
         events.push(Event::Fresh(n));
@@ -88,7 +83,7 @@ pub fn make(seed: u64) -> Scenario {
 /// The words that a scenario starts from: rubbish for a fresh table to be made in, an arbitrary
 /// sound table, or a wrong length.
 fn first_words(rng: &mut Random, style: Style, n: u32) -> Vec<u32> {
-    let length = if style == Style::WrongLength { rng.among(&[0, 1, 529, 4624, 4626, 8000]) } else { WORDS };
+    let length = if style == Style::WrongLength { rng.among(&[0, 1, LOGS, WORDS - 1, WORDS + 1, 8000]) } else { WORDS };
     let small = rng.percent(50);
     let mut words: Vec<u32> = (0..length).map(|_| if small { rng.below(12) } else { rng.word() }).collect();
     if length > 0 && style != Style::Arbitrary {
@@ -96,15 +91,12 @@ fn first_words(rng: &mut Random, style: Style, n: u32) -> Vec<u32> {
     }
     if style == Style::Arbitrary {
         words[0] = n;
-        for p in 0..16 {
-            let held = if rng.percent(20) { 64 } else { rng.below(65) };
-            words[(HELD + p) as usize] = if p < n || rng.percent(50) { held } else { rng.word() };
-            for row in 0..64 {
-                let at = (LOG + 256 * p + 4 * row) as usize;
-                if p < n && row < held {
-                    words[at] = rng.below(n);
-                    words[at + 3] = rng.below(256);
-                }
+        for p in 0..NODES {
+            let (held, takes_part) = (if rng.percent(20) { MOST } else { rng.below(MOST + 1) }, p < n as usize);
+            words[HELD + p] = if takes_part || rng.percent(50) { held } else { rng.word() };
+            for row in (0..held as usize).filter(|_| takes_part) {
+                words[record_at(p, row, 0)] = rng.below(n);
+                words[record_at(p, row, 3)] = rng.below(256);
             }
         }
     }
@@ -142,7 +134,7 @@ impl Maker {
             Style::Cut => (30, 55),
             _ => (40, 42),
         };
-        let n = t.count.clamp(2, 16);
+        let n = t.count.clamp(*COUNTS.start(), *COUNTS.end());
         match self.rng.below(100) {
             97 => Event::CountNode(self.node(n)),
             95 | 96 if self.style == Style::Damaged => Event::CountNode(self.node(n)),
@@ -157,7 +149,7 @@ impl Maker {
 
     /// Fills node 0's log, lets all pairs meet until all is acknowledged, and purges every node.
     fn drain(&mut self, t: &Table) -> Action {
-        let (n, turn) = (t.count.clamp(2, 16), self.turn);
+        let (n, turn) = (t.count.clamp(*COUNTS.start(), *COUNTS.end()), self.turn);
         self.turn += 1;
         if turn < MOST + 1 {
             let timestamp = self.reading(0, self.own(t, 0));
@@ -189,7 +181,7 @@ impl Maker {
 
     /// A timestamp or reading for a node whose own entry is `own`.
     fn reading(&mut self, node: u8, own: u32) -> u32 {
-        let p = usize::from(node) % 16;
+        let p = usize::from(node) % NODES;
         self.clocks[p] = self.clocks[p].saturating_add(self.rng.below(4));
         match self.style {
             Style::Gossip | Style::Full | Style::Drain | Style::Damaged if self.rng.percent(96) => {
@@ -214,7 +206,7 @@ impl Maker {
     }
 
     fn own(&self, t: &Table, node: u8) -> u32 {
-        let p = usize::from(node) % 16;
+        let p = usize::from(node) % NODES;
         t.summaries[p][p]
     }
 
@@ -242,28 +234,29 @@ impl Maker {
 
     /// A word to spoil, chosen among those that matter, and the value that mends it.
     fn damage(&mut self, t: &Table) -> Event {
-        let p = self.rng.below(16);
+        let p = self.rng.below(NODES as u32) as usize;
+        let entry = (NODES * NODES) as u32;
         let index = match self.rng.below(7) {
             0 => 0,
             1 | 2 => HELD + p,
-            3 => SUMMARY + self.rng.below(256),
-            4 => ACKNOWLEDGEMENT + self.rng.below(256),
-            5 => LOG + 256 * p + 4 * self.rng.below(8) + self.rng.among(&[0, 3]),
-            _ => LOG + 256 * p + 4 * t.held[p as usize].wrapping_sub(1).min(63) + self.rng.among(&[0, 0, 1, 3, 3]),
+            3 => SUMMARIES + self.rng.below(entry) as usize,
+            4 => ACKNOWLEDGEMENTS + self.rng.below(entry) as usize,
+            5 => record_at(p, self.rng.below(8) as usize, self.rng.among(&[0, 3])),
+            _ => record_at(p, t.held[p].wrapping_sub(1).min(MOST - 1) as usize, self.rng.among(&[0, 0, 1, 3, 3])),
         };
         let mut words = Vec::new();
         t.to_words(&mut words);
-        let old = words[index as usize];
-        self.mended = Some((index, old));
+        let old = words[index];
+        self.mended = Some((index as u32, old));
         let (low, high) = (self.rng.below(18), self.rng.word());
         let least_wrong = match index {
-            0 => self.rng.among(&[0, 1, 17]),
-            HELD..LOG => 65,
-            LOG.. if (index - LOG) % 4 == 0 => t.count,
-            LOG.. => 256,
+            0 => self.rng.among(&[0, 1, NODES as u32 + 1]),
+            HELD..LOGS => MOST + 1,
+            LOGS.. if (index - LOGS) % RECORD == 0 => t.count,
+            LOGS.. => 256,
             _ => u32::MAX,
         };
-        Event::Poke(index, self.rng.among(&[least_wrong, least_wrong, least_wrong, 0, 1, 2, 16, 64, 255, low, high, u32::MAX, old.wrapping_add(1), old.wrapping_sub(1)]))
+        Event::Poke(index as u32, self.rng.among(&[least_wrong, least_wrong, least_wrong, 0, 1, 2, 16, 64, 255, low, high, u32::MAX, old.wrapping_add(1), old.wrapping_sub(1)]))
     }
 }
 
@@ -386,7 +379,7 @@ impl Run<'_> {
 
     /// What the nodes of a step held before it, for the situations that must be reached.
     fn situation(&self, event: Event) -> [u32; 2] {
-        let held = |p: u8| self.table.as_ref().map_or(0, |t| t.held[usize::from(p) % 16]);
+        let held = |p: u8| self.table.as_ref().map_or(0, |t| t.held[usize::from(p) % NODES]);
         match event {
             Event::Step(Action::Write { node, .. } | Action::Purge { node }) => [held(node), 0],
             Event::Step(Action::Session { a, b, .. }) => [held(a), held(b)],
@@ -443,17 +436,6 @@ fn words(is: &[u32], should: &[u32]) -> Result<(), String> {
     }
     let at = (0..should.len()).find(|&i| is[i] != should[i]).unwrap();
     Err(format!("word {at} of the table ({}): the library has {}, document 01 {}", place(at), is[at], should[at]))
-}
-
-/// The place of a word in document 01's terms.
-fn place(at: usize) -> String {
-    match at {
-        0 => "the count".into(),
-        1..=256 => format!("summary of node {}, entry {}", (at - 1) / 16, (at - 1) % 16),
-        257..=512 => format!("acknowledgements of node {}, entry {}", (at - 257) / 16, (at - 257) % 16),
-        513..=528 => format!("held number of node {}", at - 513),
-        _ => format!("log of node {}, row {}, word {}", (at - 529) / 256, (at - 529) % 256 / 4, (at - 529) % 4),
-    }
 }
 
 /// Runs a scenario on the model and the library; the answer is the event that differs and how.
@@ -541,7 +523,7 @@ pub fn steps_of(seed: u64) -> (u32, Vec<Action>) {
     let scenario = make(seed);
     let n = match scenario.events[0] {
         Event::Fresh(n) => n,
-        _ => scenario.words.first().copied().unwrap_or(2).clamp(2, 16),
+        _ => scenario.words.first().copied().unwrap_or(2).clamp(*COUNTS.start(), *COUNTS.end()),
     };
     let steps = scenario.events.iter().filter_map(|e| if let Event::Step(action) = e { Some(*action) } else { None }).collect();
     (n, steps)

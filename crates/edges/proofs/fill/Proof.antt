@@ -1,12 +1,10 @@
+-- `fill` keeps the table's length, and stops at the last timestamp.
 use borrow.Author.Needs.{needs}
 use mathlib.Core.Path.{_≡_}
 use Prim.Native.Nat.{_-_}
 use lib.ListN.{length}
 use Rattle.edges.proofs.fill.Statement.{statement}
 use Rattle.edges.proofs.fill.Tie as tie
-use Rattle.edges.proofs.fill.Reads as reads
-use Rattle.edges.proofs.fill.Lts as lts
-use Rattle.table.proofs.apply.Reads as apply-reads
 
 abbrev Inv-loop : tie.InvT-loop
 Inv-loop t₀ node last at₀ t at = length t ≡ length t₀

@@ -11,7 +11,8 @@ use Rattle.journal.proofs.find.Statement.{statement}
 use Rattle.journal.proofs.find.Tie as tie
 
 abbrev Inv-loop : tie.InvT-loop
-Inv-loop s at i₀ i = (at ≤ i) × (i ≤ length s) × (hasLF (drop at s) ≡ hasLF (drop i s)) × (at + length (untilLF (drop at s)) ≡ i + length (untilLF (drop i s)))
+Inv-loop s at i₀ i =
+    (at ≤ i) × (i ≤ length s) × (hasLF (drop at s) ≡ hasLF (drop i s)) × (at + length (untilLF (drop at s)) ≡ i + length (untilLF (drop i s)))
 
 abbrev μ-loop : tie.MeasureT-loop
 μ-loop s at i₀ i = length s - i
@@ -31,7 +32,8 @@ returns-2 c =
     let l = c .before .before .before .loop in
     let t = now (s .args .s) in
     let h : l .i < length t = omega arith in
-    found-line t (s .args .at) (l .i) (omega arith) (l .inv .2 ∙ has-here t (l .i) h (c .if2 .taken)) (omega (arith, ap length (until-here t (l .i) h (c .if2 .taken))))
+    let none = ap length (until-here t (l .i) h (c .if2 .taken)) in
+    found-line t (s .args .at) (l .i) (omega arith) (l .inv .2 ∙ has-here t (l .i) h (c .if2 .taken)) (omega arith)
 
 add-i : tie.Need-add-i Inv-loop μ-loop
 add-i c = omega arith

@@ -1,9 +1,11 @@
 -- `line` hands back the part that the finder found; the law `line-facts` says that it is the definition's line.
-use mathlib.Core.Path.{sym, _∙_}
+use mathlib.Core.Path.{refl, sym, _∙_}
 use native.Mathlib.Omega.{arith}
-use denote.Ref.{now}
-use Rattle.journal.proofs.Finding.{line-facts, unended-line, over-line}
 use borrow.Author.Needs.{needs}
+use borrow.Author.Tests.{leb-false}
+use lib.ListN.{length}
+use denote.Ref.{now}
+use Rattle.journal.proofs.Finding.{none-taken, line-facts, unended-facts, unended-line, over-facts, over-line}
 use Rattle.journal.proofs.line.Statement.{statement}
 use Rattle.journal.proofs.line.Tie as tie
 
@@ -15,17 +17,26 @@ enum-known-end c = search needs
 
 sub-result : tie.Need-sub-result
 sub-result c =
-    let f = line-facts (now (c .before .before .before .before .before .args .s)) (c .before .before .before .before .before .args .at) _ (sym (c .before .before .before .find .ensures) ∙ c .before .end .given .1) in
+    let at-end = c .before in
+    let at-find = at-end .before .before in
+    let a = at-find .before .before .args in
+    let f = line-facts (now (a .s)) (a .at) _ (sym (at-find .find .ensures) ∙ at-end .end .given .1) in
     omega arith
 
 part-result-start : tie.Need-part-result-start
 part-result-start c =
-    let f = line-facts (now (c .before .before .before .before .before .args .s)) (c .before .before .before .before .before .args .at) _ (sym (c .before .before .before .find .ensures) ∙ c .before .end .given .1) in
+    let at-end = c .before in
+    let at-find = at-end .before .before in
+    let a = at-find .before .before .args in
+    let f = line-facts (now (a .s)) (a .at) _ (sym (at-find .find .ensures) ∙ at-end .end .given .1) in
     omega arith
 
 part-result-end : tie.Need-part-result-end
 part-result-end c =
-    let f = line-facts (now (c .before .before .before .before .before .args .s)) (c .before .before .before .before .before .args .at) _ (sym (c .before .before .before .find .ensures) ∙ c .before .end .given .1) in
+    let at-end = c .before in
+    let at-find = at-end .before .before in
+    let a = at-find .before .before .args in
+    let f = line-facts (now (a .s)) (a .at) _ (sym (at-find .find .ensures) ∙ at-end .end .given .1) in
     omega arith
 
 enum-told : tie.Need-enum-told
@@ -38,7 +49,11 @@ part-result-start-2 : tie.Need-part-result-start-2
 part-result-start-2 c = search needs
 
 part-result-end-2 : tie.Need-part-result-end-2
-part-result-end-2 c = search needs
+part-result-end-2 c =
+    let at-find = c .before .before in
+    let a = at-find .before .before .args in
+    let f = unended-facts (now (a .s)) (a .at) (sym (at-find .find .ensures) ∙ c .enum-told .given .1) in
+    omega (arith, leb-false (length (now (a .s))) (a .at) (f .0))
 
 enum-told-2 : tie.Need-enum-told-2
 enum-told-2 c = search needs
@@ -53,13 +68,30 @@ part-result-end-3 : tie.Need-part-result-end-3
 part-result-end-3 c = search needs
 
 returns : tie.Need-returns
-returns c = (line-facts (now (c .before .before .before .before .before .before .args .s)) (c .before .before .before .before .before .before .args .at) _ (sym (c .before .before .before .before .find .ensures) ∙ c .before .before .end .given .1)) .part
+returns c =
+    let at-end = c .before .before in
+    let at-find = at-end .before .before in
+    let a = at-find .before .before .args in
+    let f = line-facts (now (a .s)) (a .at) _ (sym (at-find .find .ensures) ∙ at-end .end .given .1) in
+    record { memory = refl; place = rw (f .left) (search needs); is = f .part }
 
 returns-2 : tie.Need-returns-2
-returns-2 c = unended-line (now (c .before .before .before .before .before .args .s)) (c .before .before .before .before .before .args .at) (sym (c .before .before .before .find .ensures) ∙ c .before .enum-told .given .1)
+returns-2 c =
+    let at-told = c .before in
+    let at-find = at-told .before .before in
+    let a = at-find .before .before .args in
+    let e = sym (at-find .find .ensures) ∙ at-told .enum-told .given .1 in
+    let t = now (a .s) in
+    record { memory = refl; place = rw (unended-facts t (a .at) e .0) (omega arith); is = none-taken (a .at) t ∙ unended-line t (a .at) e }
 
 returns-3 : tie.Need-returns-3
-returns-3 c = over-line (now (c .before .before .before .before .before .args .s)) (c .before .before .before .before .before .args .at) (sym (c .before .before .before .find .ensures) ∙ c .before .enum-told2 .given .1)
+returns-3 c =
+    let at-told = c .before in
+    let at-find = at-told .before .before in
+    let a = at-find .before .before .args in
+    let e = sym (at-find .find .ensures) ∙ at-told .enum-told2 .given .1 in
+    let t = now (a .s) in
+    record { memory = refl; place = rw (over-facts t (a .at) e) (search needs); is = none-taken (length t) t ∙ over-line t (a .at) e }
 
 pub line-spec : {M : Type 1} → statement M
 line-spec =

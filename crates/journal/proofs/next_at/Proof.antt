@@ -21,17 +21,26 @@ enum-known-end c = search needs
 
 sub-read-line : tie.Need-sub-read-line
 sub-read-line c =
-    let f = line-facts (now (c .before .before .before .before .before .args .s)) (c .before .before .before .before .before .args .at) _ (sym (c .before .before .before .find .ensures) ∙ c .before .end .given .1) in
+    let at-end = c .before in
+    let at-find = at-end .before .before in
+    let a = at-find .before .before .args in
+    let f = line-facts (now (a .s)) (a .at) _ (sym (at-find .find .ensures) ∙ at-end .end .given .1) in
     omega arith
 
 part-read-line-start : tie.Need-part-read-line-start
 part-read-line-start c =
-    let f = line-facts (now (c .before .before .before .before .before .args .s)) (c .before .before .before .before .before .args .at) _ (sym (c .before .before .before .find .ensures) ∙ c .before .end .given .1) in
+    let at-end = c .before in
+    let at-find = at-end .before .before in
+    let a = at-find .before .before .args in
+    let f = line-facts (now (a .s)) (a .at) _ (sym (at-find .find .ensures) ∙ at-end .end .given .1) in
     omega arith
 
 part-read-line-end : tie.Need-part-read-line-end
 part-read-line-end c =
-    let f = line-facts (now (c .before .before .before .before .before .args .s)) (c .before .before .before .before .before .args .at) _ (sym (c .before .before .before .find .ensures) ∙ c .before .end .given .1) in
+    let at-end = c .before in
+    let at-find = at-end .before .before in
+    let a = at-find .before .before .args in
+    let f = line-facts (now (a .s)) (a .at) _ (sym (at-find .find .ensures) ∙ at-end .end .given .1) in
     omega arith
 
 read-line-requires : tie.Need-read-line-requires
@@ -39,22 +48,34 @@ read-line-requires c κs = search needs
 
 add-in-turn : tie.Need-add-in-turn
 add-in-turn c =
-    let f = line-facts (now (c .before .before .before .before .before .before .before .args .s)) (c .before .before .before .before .before .before .before .args .at) _ (sym (c .before .before .before .before .before .find .ensures) ∙ c .before .before .before .end .given .1) in
+    let at-end = c .before .before .before in
+    let at-find = at-end .before .before in
+    let a = at-find .before .before .args in
+    let f = line-facts (now (a .s)) (a .at) _ (sym (at-find .find .ensures) ∙ at-end .end .given .1) in
     omega arith
 
 in-turn-requires : tie.Need-in-turn-requires
 in-turn-requires c κs = search needs
 
 returns : tie.Need-returns
-returns c = next-over (now (c .before .before .before .before .args .s)) (c .before .before .before .before .args .at) (c .before .before .before .before .args .line) (sym (c .before .before .find .ensures) ∙ c .enum-told .given .1)
+returns c =
+    let at-find = c .before .before in
+    let a = at-find .before .before .args in
+    next-over (now (a .s)) (a .at) (a .line) (sym (at-find .find .ensures) ∙ c .enum-told .given .1)
 
 returns-2 : tie.Need-returns-2
-returns-2 c = next-unended (now (c .before .before .before .before .args .s)) (c .before .before .before .before .args .at) (c .before .before .before .before .args .line) (sym (c .before .before .find .ensures) ∙ c .enum-told2 .given .1)
+returns-2 c =
+    let at-find = c .before .before in
+    let a = at-find .before .before .args in
+    next-unended (now (a .s)) (a .at) (a .line) (sym (at-find .find .ensures) ∙ c .enum-told2 .given .1)
 
 returns-3 : tie.Need-returns-3
 returns-3 c =
-    let s = c .before .before .before .before .before .before .before .before in
-    c .in-turn .ensures ∙ rw (c .before .read-line .ensures) (next-line (now (s .args .s)) (s .args .at) _ (s .args .line) (sym (c .before .before .before .before .before .before .find .ensures) ∙ c .before .before .before .before .end .given .1))
+    let at-end = c .before .before .before .before in
+    let at-find = at-end .before .before in
+    let a = at-find .before .before .args in
+    let e = sym (at-find .find .ensures) ∙ at-end .end .given .1 in
+    c .in-turn .ensures ∙ rw (c .before .read-line .ensures) (next-line (now (a .s)) (a .at) _ (a .line) e)
 
 pub next-at-spec : {M : Type 1} → statement M
 next-at-spec =

@@ -1,9 +1,11 @@
--- `part_at` hands back the part up to the LF before the next place, and nothing with a refusal or at the end.
-use mathlib.Core.Path.{sym, _∙_}
+-- `part_at` hands back the part up to the LF before the next place, and an empty one at its place with a refusal or at the end.
+use mathlib.Core.Path.{refl, sym, _∙_}
 use native.Mathlib.Omega.{arith}
-use denote.Ref.{now}
-use Rattle.journal.proofs.Finding.{begun, acted}
 use borrow.Author.Needs.{needs}
+use borrow.Author.Tests.{leb-false}
+use lib.ListN.{length}
+use denote.Ref.{now}
+use Rattle.journal.proofs.Finding.{none-taken, begun, acted, refused-inside, end-over}
 use Rattle.journal.proofs.part_at.Statement.{statement}
 use Rattle.journal.proofs.part_at.Tie as tie
 
@@ -15,22 +17,34 @@ enum-known-next c = search needs
 
 sub-result : tie.Need-sub-result
 sub-result c =
-    let f = begun (now (c .before .before .before .before .before .args .s)) (c .before .before .before .before .before .args .at) (c .before .before .before .before .before .args .line) (sym (c .before .before .before .next-at .ensures) ∙ c .before .next .given .1) in
+    let at-next = c .before in
+    let at-call = at-next .before .before in
+    let a = at-call .before .before .args in
+    let f = begun (now (a .s)) (a .at) (a .line) (sym (at-call .next-at .ensures) ∙ at-next .next .given .1) in
     omega arith
 
 sub-result-2 : tie.Need-sub-result-2
 sub-result-2 c =
-    let f = begun (now (c .before .before .before .before .before .args .s)) (c .before .before .before .before .before .args .at) (c .before .before .before .before .before .args .line) (sym (c .before .before .before .next-at .ensures) ∙ c .before .next .given .1) in
+    let at-next = c .before in
+    let at-call = at-next .before .before in
+    let a = at-call .before .before .args in
+    let f = begun (now (a .s)) (a .at) (a .line) (sym (at-call .next-at .ensures) ∙ at-next .next .given .1) in
     omega arith
 
 part-result-start : tie.Need-part-result-start
 part-result-start c =
-    let f = begun (now (c .before .before .before .before .before .args .s)) (c .before .before .before .before .before .args .at) (c .before .before .before .before .before .args .line) (sym (c .before .before .before .next-at .ensures) ∙ c .before .next .given .1) in
+    let at-next = c .before in
+    let at-call = at-next .before .before in
+    let a = at-call .before .before .args in
+    let f = begun (now (a .s)) (a .at) (a .line) (sym (at-call .next-at .ensures) ∙ at-next .next .given .1) in
     omega arith
 
 part-result-end : tie.Need-part-result-end
 part-result-end c =
-    let f = begun (now (c .before .before .before .before .before .args .s)) (c .before .before .before .before .before .args .at) (c .before .before .before .before .before .args .line) (sym (c .before .before .before .next-at .ensures) ∙ c .before .next .given .1) in
+    let at-next = c .before in
+    let at-call = at-next .before .before in
+    let a = at-call .before .before .args in
+    let f = begun (now (a .s)) (a .at) (a .line) (sym (at-call .next-at .ensures) ∙ at-next .next .given .1) in
     omega arith
 
 enum-known-next-2 : tie.Need-enum-known-next-2
@@ -38,22 +52,34 @@ enum-known-next-2 c = search needs
 
 sub-result-3 : tie.Need-sub-result-3
 sub-result-3 c =
-    let f = acted (now (c .before .before .before .before .before .args .s)) (c .before .before .before .before .before .args .at) (c .before .before .before .before .before .args .line) (sym (c .before .before .before .next-at .ensures) ∙ c .before .next2 .given .1) in
+    let at-next = c .before in
+    let at-call = at-next .before .before in
+    let a = at-call .before .before .args in
+    let f = acted (now (a .s)) (a .at) (a .line) (sym (at-call .next-at .ensures) ∙ at-next .next2 .given .1) in
     omega arith
 
 sub-result-4 : tie.Need-sub-result-4
 sub-result-4 c =
-    let f = acted (now (c .before .before .before .before .before .args .s)) (c .before .before .before .before .before .args .at) (c .before .before .before .before .before .args .line) (sym (c .before .before .before .next-at .ensures) ∙ c .before .next2 .given .1) in
+    let at-next = c .before in
+    let at-call = at-next .before .before in
+    let a = at-call .before .before .args in
+    let f = acted (now (a .s)) (a .at) (a .line) (sym (at-call .next-at .ensures) ∙ at-next .next2 .given .1) in
     omega arith
 
 part-result-start-2 : tie.Need-part-result-start-2
 part-result-start-2 c =
-    let f = acted (now (c .before .before .before .before .before .args .s)) (c .before .before .before .before .before .args .at) (c .before .before .before .before .before .args .line) (sym (c .before .before .before .next-at .ensures) ∙ c .before .next2 .given .1) in
+    let at-next = c .before in
+    let at-call = at-next .before .before in
+    let a = at-call .before .before .args in
+    let f = acted (now (a .s)) (a .at) (a .line) (sym (at-call .next-at .ensures) ∙ at-next .next2 .given .1) in
     omega arith
 
 part-result-end-2 : tie.Need-part-result-end-2
 part-result-end-2 c =
-    let f = acted (now (c .before .before .before .before .before .args .s)) (c .before .before .before .before .before .args .at) (c .before .before .before .before .before .args .line) (sym (c .before .before .before .next-at .ensures) ∙ c .before .next2 .given .1) in
+    let at-next = c .before in
+    let at-call = at-next .before .before in
+    let a = at-call .before .before .args in
+    let f = acted (now (a .s)) (a .at) (a .line) (sym (at-call .next-at .ensures) ∙ at-next .next2 .given .1) in
     omega arith
 
 enum-told : tie.Need-enum-told
@@ -66,7 +92,11 @@ part-result-start-3 : tie.Need-part-result-start-3
 part-result-start-3 c = search needs
 
 part-result-end-3 : tie.Need-part-result-end-3
-part-result-end-3 c = search needs
+part-result-end-3 c =
+    let at-call = c .before .before in
+    let a = at-call .before .before .args in
+    let f = refused-inside (now (a .s)) (a .at) (a .line) (sym (at-call .next-at .ensures) ∙ c .enum-told .given .1) in
+    omega (arith, leb-false (length (now (a .s))) (a .at) f)
 
 enum-told-2 : tie.Need-enum-told-2
 enum-told-2 c = search needs
@@ -82,25 +112,37 @@ part-result-end-4 c = search needs
 
 returns : tie.Need-returns
 returns c =
-    let s = c .before .before .before .before .before .before in
-    let e = sym (c .before .before .before .before .next-at .ensures) ∙ c .before .before .next .given .1 in
-    rw e (begun (now (s .args .s)) (s .args .at) (s .args .line) e .part)
+    let at-next = c .before .before in
+    let at-call = at-next .before .before in
+    let a = at-call .before .before .args in
+    let e = sym (at-call .next-at .ensures) ∙ at-next .next .given .1 in
+    let f = begun (now (a .s)) (a .at) (a .line) e in
+    record { memory = refl; place = rw (f .left) (search needs); is = rw e (f .part) }
 
 returns-2 : tie.Need-returns-2
 returns-2 c =
-    let s = c .before .before .before .before .before .before in
-    let e = sym (c .before .before .before .before .next-at .ensures) ∙ c .before .before .next2 .given .1 in
-    rw e (acted (now (s .args .s)) (s .args .at) (s .args .line) e .part)
+    let at-next = c .before .before in
+    let at-call = at-next .before .before in
+    let a = at-call .before .before .args in
+    let e = sym (at-call .next-at .ensures) ∙ at-next .next2 .given .1 in
+    let f = acted (now (a .s)) (a .at) (a .line) e in
+    record { memory = refl; place = rw (f .left) (search needs); is = rw e (f .part) }
 
 returns-3 : tie.Need-returns-3
 returns-3 c =
-    let e = sym (c .before .before .before .next-at .ensures) ∙ c .before .enum-told .given .1 in
-    rw e
+    let at-told = c .before in
+    let at-call = at-told .before .before in
+    let a = at-call .before .before .args in
+    let e = sym (at-call .next-at .ensures) ∙ at-told .enum-told .given .1 in
+    record { memory = refl; place = rw (refused-inside (now (a .s)) (a .at) (a .line) e) (omega arith); is = rw e (none-taken (a .at) (now (a .s))) }
 
 returns-4 : tie.Need-returns-4
 returns-4 c =
-    let e = sym (c .before .before .before .next-at .ensures) ∙ c .before .enum-told2 .given .1 in
-    rw e
+    let at-told = c .before in
+    let at-call = at-told .before .before in
+    let a = at-call .before .before .args in
+    let e = sym (at-call .next-at .ensures) ∙ at-told .enum-told2 .given .1 in
+    record { memory = refl; place = rw (end-over (now (a .s)) (a .at) (a .line) e) (search needs); is = rw e (none-taken (length (now (a .s))) (now (a .s))) }
 
 pub part-at-spec : {M : Type 1} → statement M
 part-at-spec =

@@ -1,3 +1,4 @@
+-- `position_at` goes by what the reader finds.
 use mathlib.Core.Path.{sym, _∙_}
 use borrow.Author.Needs.{needs}
 use Rattle.journal.proofs.position_at.Statement.{statement}

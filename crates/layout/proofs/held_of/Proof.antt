@@ -17,7 +17,10 @@ shared-slice-read-result c = search needs
 
 returns : tie.Need-returns
 unfolding held
-returns c = ap (λ i. getD (c .before .before .before .args .t .now) i 0) (c .before .held-at .ensures)
+returns c =
+    let at-held-at = c .before in
+    let start = at-held-at .before .before in
+    ap (λ i. getD (start .args .t .now) i 0) (at-held-at .held-at .ensures)
 
 pub held-of-spec : {M : Type 1} → statement M
 held-of-spec = tie.close (tie.spec held-at-requires mul-result shared-slice-read-result returns)

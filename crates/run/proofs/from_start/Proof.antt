@@ -20,9 +20,11 @@ same-length c = search needs
 
 returns : tie.Need-returns
 returns c =
-    let s = c .before .before .before .before .before .before .before .before .before .before in
-    let e = c .before .before .before .before .before .before .fresh .ensures .1 ∙ made-fresh (now (s .args .t)) (s .args .n) (s .pre .0) (s .pre .1) in
-    (c .before .before .steps .ensures .0 ∙ rw e, c .before .before .steps .ensures .1 ∙ rw e)
+    let at-steps = c .before .before in
+    let at-fresh = at-steps .before .before .before .before in
+    let s = at-fresh .before .before .before .before in
+    let e = at-fresh .fresh .ensures .1 ∙ made-fresh (now (s .args .t)) (s .args .n) (s .pre .0) (s .pre .1) in
+    rw e at (at-steps .steps .ensures)
 
 pub from-start-spec : {M : Type 1} → statement M
 from-start-spec = tie.close (tie.spec fresh-requires steps-requires same-length returns)

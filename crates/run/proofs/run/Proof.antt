@@ -24,9 +24,13 @@ cast-from-start c = search needs
 
 from-start-requires : tie.Need-from-start-requires
 from-start-requires c κs =
-    let e = sym (c .before .before .before .before .next-at .ensures) ∙ c .before .before .n .given .1 in
-    let p = begun (now (c .before .before .before .before .before .before .before .before .args .s)) 0 1 e in
-    (c .before .before .before .before .before .if1 .left, begin-right (now (c .before .before .before .before .before .before .before .before .args .s)) 0 1 e, omega arith, p .within)
+    let at-n = c .before .before in
+    let at-next = at-n .before .before in
+    let at-if = at-next .before in
+    let t = now (at-if .before .before .before .args .s) in
+    let e = sym (at-next .next-at .ensures) ∙ at-n .n .given .1 in
+    let p = begun t 0 1 e in
+    (at-if .if1 .left, begin-right t 0 1 e, omega arith, p .within)
 
 enum-told : tie.Need-enum-told
 enum-told c = search needs
@@ -42,20 +46,38 @@ same-length c = search needs
 
 returns-2 : tie.Need-returns-2
 returns-2 c =
-    let e = sym (c .before .before .before .before .before .before .before .next-at .ensures) ∙ c .before .before .before .before .before .n .given .1 in
-    let w = run-begun (now (c .before .before .before .before .before .before .before .before .before .before .before .args .t)) (now (c .before .before .before .before .before .before .before .before .before .before .before .args .s)) (c .before .before .before .before .before .before .before .before .if1 .left) e (begin-right (now (c .before .before .before .before .before .before .before .before .before .before .before .args .s)) 0 1 e) in
-    (c .before .before .from-start .ensures .0 ∙ w .0, c .before .before .from-start .ensures .1 ∙ w .1)
+    let at-start = c .before .before in
+    let at-n = at-start .before .before .before in
+    let at-next = at-n .before .before in
+    let at-if = at-next .before in
+    let s = at-if .before .before .before in
+    let e = sym (at-next .next-at .ensures) ∙ at-n .n .given .1 in
+    run-begun (now (s .args .t)) (now (s .args .s)) (at-if .if1 .left) e (begin-right (now (s .args .s)) 0 1 e) (at-start .from-start .ensures)
 
 returns-3 : tie.Need-returns-3
-returns-3 c = run-broken (now (c .before .before .before .before .before .before .args .t)) (now (c .before .before .before .before .before .before .args .s)) (c .before .before .before .if1 .left) (act-is (now (c .before .before .before .before .before .before .args .s)) (sym (c .before .before .next-at .ensures) ∙ c .enum-told .given .1)) (omega arith)
+returns-3 c =
+    let at-next = c .before .before in
+    let at-if = at-next .before in
+    let s = at-if .before .before .before in
+    let e = sym (at-next .next-at .ensures) ∙ c .enum-told .given .1 in
+    run-broken (now (s .args .t)) (now (s .args .s)) (at-if .if1 .left) (act-is (now (s .args .s)) e) (omega arith)
 
 returns-4 : tie.Need-returns-4
 returns-4 c =
-    let e = sym (c .before .before .before .next-at .ensures) ∙ c .before .number .given .1 in
-    run-broken (now (c .before .before .before .before .before .before .before .args .t)) (now (c .before .before .before .before .before .before .before .args .s)) (c .before .before .before .before .if1 .left) (refused-is (now (c .before .before .before .before .before .before .before .args .s)) e) (refused-numbered (now (c .before .before .before .before .before .before .before .args .s)) 0 1 _ e)
+    let at-number = c .before in
+    let at-next = at-number .before .before in
+    let at-if = at-next .before in
+    let s = at-if .before .before .before in
+    let e = sym (at-next .next-at .ensures) ∙ at-number .number .given .1 in
+    run-broken (now (s .args .t)) (now (s .args .s)) (at-if .if1 .left) (refused-is (now (s .args .s)) e) (refused-numbered (now (s .args .s)) 0 1 _ e)
 
 returns-5 : tie.Need-returns-5
-returns-5 c = run-broken (now (c .before .before .before .before .before .before .args .t)) (now (c .before .before .before .before .before .before .args .s)) (c .before .before .before .if1 .left) (end-is (now (c .before .before .before .before .before .before .args .s)) (sym (c .before .before .next-at .ensures) ∙ c .enum-told2 .given .1)) (omega arith)
+returns-5 c =
+    let at-next = c .before .before in
+    let at-if = at-next .before in
+    let s = at-if .before .before .before in
+    let e = sym (at-next .next-at .ensures) ∙ c .enum-told2 .given .1 in
+    run-broken (now (s .args .t)) (now (s .args .s)) (at-if .if1 .left) (end-is (now (s .args .s)) e) (omega arith)
 
 pub run-spec : {M : Type 1} → statement M
 run-spec =

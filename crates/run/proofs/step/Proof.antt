@@ -25,7 +25,8 @@ returns c =
     let x = s .args .x .action in
     let r = c .before .before .before .apply-sound in
     let k = c .count .ensures ∙ ap refusedBy (r .ensures .0) ∙ refused-counts t x in
-    (k, r .ensures .1, rw (r .ensures .1) (after-sound t x (verdict-fits x _ (s .good .1 .0 .1 .1 .1 .0)) (s .pre)), rw k (one-most (refusal t x)))
+    let sound = after-sound t x (verdict-fits x _ (s .good .1 .0 .1 .1 .1 .0)) (s .pre) in
+    record { counts = k; leaves = r .ensures .1; isSound = rw (r .ensures .1) sound; one = rw k (one-most (refusal t x)) }
 
 pub step-spec : {M : Type 1} → statement M
 step-spec = tie.close (tie.spec apply-sound-requires count-requires same-length returns)

@@ -33,9 +33,12 @@ same-length c = omega arith
 
 returns : tie.Need-returns Inv-loop μ-loop
 returns c =
-    let l = c .before .before .before .loop in
-    let e = sym (c .before .before .next-at .ensures) ∙ c .enum-told .given .1 in
-    reached-bad (l .inv) (omega arith) (steps-begin _ (now (c .before .before .before .before .before .before .args .s)) (l .at) (l .line) e)
+    let at-next = c .before .before in
+    let at-loop = at-next .before in
+    let s = at-loop .before .before .before in
+    let l = at-loop .loop in
+    let e = sym (at-next .next-at .ensures) ∙ c .enum-told .given .1 in
+    reached-bad (l .inv) (omega arith) (steps-begin _ (now (s .args .s)) (l .at) (l .line) e)
 
 enum-known-x : tie.Need-enum-known-x Inv-loop μ-loop
 enum-known-x c = search needs
@@ -45,26 +48,45 @@ step-requires c κs = c .before .before .before .before .before .loop .inv .isSo
 
 add-refused : tie.Need-add-refused Inv-loop μ-loop
 add-refused c =
-    let p = acted (now (c .before .before .before .before .before .before .before .before .before .before .before .args .s)) (c .before .before .before .before .before .before .before .before .loop .at) (c .before .before .before .before .before .before .before .before .loop .line) (sym (c .before .before .before .before .before .before .before .next-at .ensures) ∙ c .before .before .before .before .before .x .given .1) in
+    let at-x = c .before .before .before .before .before in
+    let at-next = at-x .before .before in
+    let at-loop = at-next .before in
+    let s = at-loop .before .before .before in
+    let l = at-loop .loop in
+    let p = acted (now (s .args .s)) (l .at) (l .line) (sym (at-next .next-at .ensures) ∙ at-x .x .given .1) in
     omega arith
 
 add-line : tie.Need-add-line Inv-loop μ-loop
 add-line c =
-    let p = acted (now (c .before .before .before .before .before .before .before .before .before .before .before .args .s)) (c .before .before .before .before .before .before .before .before .loop .at) (c .before .before .before .before .before .before .before .before .loop .line) (sym (c .before .before .before .before .before .before .before .next-at .ensures) ∙ c .before .before .before .before .before .x .given .1) in
+    let at-x = c .before .before .before .before .before in
+    let at-next = at-x .before .before in
+    let at-loop = at-next .before in
+    let s = at-loop .before .before .before in
+    let l = at-loop .loop in
+    let p = acted (now (s .args .s)) (l .at) (l .line) (sym (at-next .next-at .ensures) ∙ at-x .x .given .1) in
     omega arith
 
 loop-less : tie.Need-loop-less Inv-loop μ-loop
 loop-less c =
-    let p = acted (now (c .before .before .before .before .before .before .before .before .before .before .before .args .s)) (c .before .before .before .before .before .before .before .before .loop .at) (c .before .before .before .before .before .before .before .before .loop .line) (sym (c .before .before .before .before .before .before .before .next-at .ensures) ∙ c .before .before .before .before .before .x .given .1) in
+    let at-x = c .before .before .before .before .before in
+    let at-next = at-x .before .before in
+    let at-loop = at-next .before in
+    let s = at-loop .before .before .before in
+    let l = at-loop .loop in
+    let p = acted (now (s .args .s)) (l .at) (l .line) (sym (at-next .next-at .ensures) ∙ at-x .x .given .1) in
     omega arith
 
 loop-again : tie.Need-loop-again Inv-loop μ-loop
 loop-again c =
-    let l = c .before .before .before .before .before .before .before .before .loop in
-    let e = sym (c .before .before .before .before .before .before .before .next-at .ensures) ∙ c .before .before .before .before .before .x .given .1 in
-    let p = acted (now (c .before .before .before .before .before .before .before .before .before .before .before .args .s)) (l .at) (l .line) e in
-    let d = c .before .before .step in
-    reached-step (l .inv) e (p .start) (p .within) (d .result) (d .last .0) (d .ensures .0) (d .ensures .1) (d .ensures .2) (d .ensures .3)
+    let at-step = c .before .before in
+    let at-x = at-step .before .before .before in
+    let at-next = at-x .before .before in
+    let at-loop = at-next .before in
+    let s = at-loop .before .before .before in
+    let l = at-loop .loop in
+    let e = sym (at-next .next-at .ensures) ∙ at-x .x .given .1 in
+    let p = acted (now (s .args .s)) (l .at) (l .line) e in
+    reached-step (l .inv) e (p .start) (p .within) (at-step .step .ensures)
 
 enum-known-number : tie.Need-enum-known-number Inv-loop μ-loop
 enum-known-number c = search needs
@@ -74,9 +96,13 @@ same-length-2 c = omega arith
 
 returns-2 : tie.Need-returns-2 Inv-loop μ-loop
 returns-2 c =
-    let l = c .before .before .before .before .loop in
-    let e = sym (c .before .before .before .next-at .ensures) ∙ c .before .number .given .1 in
-    reached-bad (l .inv) (refused-numbered (now (c .before .before .before .before .before .before .before .args .s)) (l .at) (l .line) _ e) (steps-refused _ (now (c .before .before .before .before .before .before .before .args .s)) (l .at) (l .line) e)
+    let at-number = c .before in
+    let at-next = at-number .before .before in
+    let at-loop = at-next .before in
+    let t = now (at-loop .before .before .before .args .s) in
+    let l = at-loop .loop in
+    let e = sym (at-next .next-at .ensures) ∙ at-number .number .given .1 in
+    reached-bad (l .inv) (refused-numbered t (l .at) (l .line) _ e) (steps-refused _ t (l .at) (l .line) e)
 
 enum-told-2 : tie.Need-enum-told-2 Inv-loop μ-loop
 enum-told-2 c = search needs

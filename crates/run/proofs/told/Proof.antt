@@ -1,7 +1,7 @@
 -- `told`: the table that a run leaves has the words to print.
 use mathlib.Core.Path.{_∙_}
 use denote.Ref.{now}
-use Rattle.run.proofs.Telling.{told-text, as-text}
+use Rattle.run.proofs.Telling.{told-text}
 use borrow.Author.Needs.{needs}
 use Rattle.run.proofs.told.Statement.{statement}
 use Rattle.run.proofs.told.Tie as tie
@@ -20,12 +20,11 @@ same-length-2 c = search needs
 
 returns : tie.Need-returns
 returns c =
-    let s = c .before .before .before .before .before .before .before .before .before .before .before .before in
-    let r = c .before .before .before .before .before .before .before .run in
-    let d = c .before .before .show in
-    let w = told-text (now (s .args .out)) (now (s .args .t)) (now (s .args .s)) (r .result) (r .last .1 .0) (s .pre .0) (s .pre .1) (r .ensures .0) (r .ensures .1) (r .kept .1 .0 ∙ s .pre .0) in
-    let x = as-text (now (c .before .before .before .before .before .before .before .before .before .before .before .before .args .out)) (w .0) (d .ensures .0) (d .ensures .1) in
-    (x .0, x .1, w .1, d .ensures .2, d .ensures .3)
+    let at-show = c .before .before in
+    let at-run = at-show .before .before .before .before .before in
+    let s = at-run .before .before .before .before .before in
+    told-text (now (s .args .s)) (now (s .args .t)) (now (s .args .out)) (s .pre .0) (s .pre .1) (at-run .run .ensures)
+    (at-run .run .kept .1 .0 ∙ s .pre .0) (at-show .show .ensures)
 
 pub told-spec : {M : Type 1} → statement M
 told-spec = tie.close (tie.spec run-requires show-requires same-length same-length-2 returns)

@@ -1,99 +1,108 @@
 -- `sessions::meet` meets its contract: 5 where a reading is behind its node's own entry, or the exchange.
-use mathlib.Core.Path.{_≡_, ap, _∙_}
-use mathlib.Core.Bool.{or-true}
+use mathlib.Core.Path.{_≡_, refl, ap, _∙_}
+use mathlib.Core.Bool.{Bool, true, false}
 use mathlib.Core.List.{List}
 use Prim.Native.Nat.{ℕ, _-_, _<_, _≤_}
 use native.Mathlib.Omega.{arith}
-use borrow.Author.Tests.{lt-ltb, le-ltb}
 use lib.ListN.{length, take}
-use lib.Dec.{ltb}
 use Rattle.meaning.specs.declared.Reply.{Reply}
 use Rattle.meaning.specs.declared.Reply.the-variants.{Refused}
 use Rattle.meaning.specs.declared.Action.the-variants.{Session}
-use Rattle.meaning.specs.Rows.{given, unless}
-use Rattle.meaning.specs.Table.{Node, node, count}
+use Rattle.meaning.specs.Table.{Node, node, count, Sound}
 use Rattle.meaning.specs.Node.{own, opened}
-use Rattle.meaning.specs.Steps.{clockBack, noRoom, acted, reported, replied}
-use Rattle.meaning.proofs.TableLaws.{Sound, node-shaped}
-use Rattle.meaning.proofs.StepLaws.{opened-shaped}
-use Rattle.sessions.specs.Begun.{begun, Exchanged, Meets}
+use Rattle.meaning.specs.Steps.{acted, reported}
+use Rattle.meaning.proofs.TableLaws.{node-shaped}
+use Rattle.meaning.proofs.StepLaws.{opened-shaped, session-is-5-a, session-is-5-b, session-is-6, session-is-0, refuse, accept}
+use Rattle.looks.specs.Applied.{Applied}
+use Rattle.openings.specs.Begun.{begun, Starts}
+use Rattle.exchanges.specs.Met.{crowded, Exchanged, Meets, Traded}
 use borrow.Author.Needs.{needs}
 use Rattle.sessions.proofs.meet.Statement.{statement}
 use Rattle.sessions.proofs.meet.Tie as tie
-use Rattle.sessions.proofs.meet.Reads as reads
-use Rattle.sessions.proofs.meet.Lts as lts
-use Rattle.actions.proofs.look.nodes_of.Reads as nodes-of-reads
-use Rattle.actions.proofs.look.own_of.Reads as own-of-reads
-use Rattle.sessions.proofs.exchange.Reads as exchange-reads
-use Rattle.sessions.proofs.opening.Reads as opening-reads
 
-module _ (t : List ℕ) (s : Sound t) (a b : ℕ) (ha : a < count t) (hb : b < count t) (apart : a ≡ b → ⊥) (ca cb o : ℕ) where
-  -- what is asked of the reply r and the words u
-  Right : Reply → List ℕ → Type 0
-  Right r u =
-      (r ≡ replied (given (clockBack t (Session a b ca cb o)) 5 (given (noRoom t (Session a b ca cb o)) 6 0)) (reported t (Session a b ca cb o))) ×
-      (u ≡ unless (given (clockBack t (Session a b ca cb o)) 5 (given (noRoom t (Session a b ca cb o)) 6 0)) (acted t (Session a b ca cb o)) t)
+module _ (t : List ℕ) (a b ca cb o : ℕ) (pre : Sound t × (a < count t) × (b < count t) × (a ≡ b → ⊥) × (o ≤ 3)) where
+  backA : (x : ℕ) → x ≡ own a (node t a) → ca < x → Applied t (Session a b ca cb o) (Refused 5) t
+  backA x e h = refuse t (Session a b ca cb o) 4 (session-is-5-a t (pre .0) a b ca cb o (pre .4) (pre .1) (pre .2) (pre .3) (omega arith))
 
-  backA : (x : ℕ) → x ≡ own a (node t a) → ca < x → Right (Refused 5) t
-  unfolding clockBack Right
-  backA x e h = let g = lt-ltb ca (own a (node t a)) (omega arith) in (rw g, rw g)
+  backB : (x : ℕ) → x ≡ own b (node t b) → cb < x → Applied t (Session a b ca cb o) (Refused 5) t
+  backB x e h = refuse t (Session a b ca cb o) 4 (session-is-5-b t (pre .0) a b ca cb o (pre .4) (pre .1) (pre .2) (pre .3) (omega arith))
 
-  backB : (x : ℕ) → x ≡ own b (node t b) → cb < x → Right (Refused 5) t
-  unfolding clockBack Right
-  backB x e h =
-      let g = lt-ltb cb (own b (node t b)) (omega arith) in
-      let f = or-true (ltb ca (own a (node t a))) in
-      (rw (g, f), rw (g, f))
+  -- the readings are in order
+  module _ {r : Reply} {u : List ℕ} (trade : Traded t o a b (opened a ca (node t a)) (opened b cb (node t b)) r u)
+      (ga : own a (node t a) ≤ ca) (gb : own b (node t b) ≤ cb) where
+    by-room : (full : Bool) → crowded o (opened a ca (node t a)) (opened b cb (node t b)) ≡ full → Applied t (Session a b ca cb o) r u
+    unfolding reported acted
+    by-room true h =
+        let is = trade .full h in
+        let asked = refuse t (Session a b ca cb o) 5 (session-is-6 t (pre .0) a b ca cb o (pre .4) (pre .1) (pre .2) (pre .3) ga gb h) in
+        (is .0 ∙ asked .0, is .1 ∙ asked .1)
+    by-room false h =
+        let is = trade .done h in
+        let asked = accept t (Session a b ca cb o) (session-is-0 t (pre .0) a b ca cb o (pre .4) (pre .1) (pre .2) (pre .3) ga gb h) in
+        (is .0 ∙ asked .0, is .1 ∙ asked .1)
 
-  module _ (n : ℕ) (en : n ≡ count t) (m : ℕ) (em : m ≡ n) (sa ka sb kb : List ℕ) (ea : begun (take n sa) (take n ka) (node t a .log) ≡ opened a ca (node t a))
-      (eb : begun (take n sb) (take n kb) (node t b .log) ≡ opened b cb (node t b)) where
+  module _ (n : ℕ) (en : n ≡ count t) (m : ℕ) (em : m ≡ n) (sa ka sb kb : List ℕ) (ea : Starts t a n ca sa ka) (eb : Starts t b n cb sb kb) where
     -- the lent parts of a node's rows are its starting values
-    lent : (p c : ℕ) (s′ k′ : List ℕ) → begun (take n s′) (take n k′) (node t p .log) ≡ opened p c (node t p) → begun (take m s′) (take m k′) (node t p .log) ≡ opened p c (node t p)
-    lent p c s′ k′ e = ap (λ (i : ℕ). begun (take i s′) (take i k′) (node t p .log)) em ∙ e
+    lent : (p c : ℕ) (s k : List ℕ) → Starts t p n c s k → Starts t p m c s k
+    lent p c s k e = ap (λ (i : ℕ). begun (take i s) (take i k) (node t p .log)) em ∙ e
 
-    long :
-        (p c : ℕ) → p < count t → (s′ k′ : List ℕ) → begun (take n s′) (take n k′) (node t p .log) ≡ opened p c (node t p) →
-        (length (take m s′) ≡ count t) × (length (take m k′) ≡ count t)
-    long p c h s′ k′ e =
-        let f = opened-shaped (count t) (node t p) (node-shaped t s p h) p c in
-        (ap (λ (z : Node). length (z .summary)) (lent p c s′ k′ e) ∙ f .summaryLong, ap (λ (z : Node). length (z .acks)) (lent p c s′ k′ e) ∙ f .acksLong)
+    long : (p c : ℕ) → p < count t → (s k : List ℕ) → Starts t p n c s k → (length (take m s) ≡ count t) × (length (take m k) ≡ count t)
+    long p c h s k e =
+        let f = opened-shaped (count t) (node t p) (node-shaped t (pre .0) p h) p c in
+        (ap (λ (z : Node). length (z .summary)) (lent p c s k e) ∙ f .summaryLong, ap (λ (z : Node). length (z .acks)) (lent p c s k e) ∙ f .acksLong)
 
     ready : Meets t a b (take m sa) (take m ka) (take m sb) (take m kb)
-    ready = record { isSound = s; hereA = ha; hereB = hb; apart = apart; longA = long a ca ha sa ka ea; longB = long b cb hb sb kb eb }
+    ready =
+        record {
+          isSound = pre .0;
+          hereA = pre .1;
+          hereB = pre .2;
+          apart = pre .3;
+          longA = long a ca (pre .1) sa ka ea;
+          longB = long b cb (pre .2) sb kb eb;
+        }
 
     done :
-        (x y : ℕ) → x ≡ own a (node t a) → x ≤ ca → y ≡ own b (node t b) → y ≤ cb → (r : Reply) (u : List ℕ) →
-        Exchanged t o a b (take m sa) (take m ka) (take m sb) (take m kb) r u → Right r u
-    unfolding clockBack noRoom reported acted Right
-    done x y ex lx ey ly r u e =
-        let f = le-ltb ca (own a (node t a)) (omega arith) in
-        let g = le-ltb cb (own b (node t b)) (omega arith) in
-        let i = lent a ca sa ka ea in
-        let j = lent b cb sb kb eb in
-        rw (f, g, ← i, ← j) (e .replies, e .leaves)
+        (x y : ℕ) → x ≡ own a (node t a) → x ≤ ca → y ≡ own b (node t b) → y ≤ cb → {r : Reply} {u : List ℕ} →
+        Exchanged t o a b (take m sa) (take m ka) (take m sb) (take m kb) r u → Applied t (Session a b ca cb o) r u
+    done x y ex lx ey ly {r} {u} e =
+        let trade : Traded t o a b (opened a ca (node t a)) (opened b cb (node t b)) r u = rw (lent a ca sa ka ea, lent b cb sb kb eb) at e in
+        by-room trade (omega arith) (omega arith) (crowded o (opened a ca (node t a)) (opened b cb (node t b))) refl
 
 own-of-requires : tie.Need-own-of-requires
-own-of-requires c κs = search needs
+own-of-requires c κs =
+    let start = c .before .before in
+    (start .pre .0, start .pre .1)
 
 same-length : tie.Need-same-length
-same-length c = search needs
+same-length c = refl
 
 returns : tie.Need-returns
-unfolding Right
-returns c = backA (c .before .before .before .before .args .t .now) (c .before .before .before .before .pre .0) (c .before .before .before .before .args .a) (c .before .before .before .before .args .b) (c .before .before .before .before .pre .1) (c .before .before .before .before .pre .2) (c .before .before .before .before .pre .3) (c .before .before .before .before .args .ca) (c .before .before .before .before .args .cb) (c .before .before .before .before .args .outcome) (c .before .own-of .result) (c .before .own-of .ensures) (c .if1 .taken)
+returns c =
+    let at-own-of = c .before in
+    let start = at-own-of .before .before .before in
+    backA (start .args .t .now) (start .args .a) (start .args .b) (start .args .ca) (start .args .cb) (start .args .outcome) (start .pre)
+    (at-own-of .own-of .result) (at-own-of .own-of .ensures) (c .if1 .taken)
 
 own-of-requires-2 : tie.Need-own-of-requires-2
-own-of-requires-2 c κs = search needs
+own-of-requires-2 c κs =
+    let start = c .before .before .before .before .before in
+    (start .pre .0, start .pre .2)
 
 same-length-2 : tie.Need-same-length-2
-same-length-2 c = search needs
+same-length-2 c = refl
 
 returns-2 : tie.Need-returns-2
-unfolding Right
-returns-2 c = backB (c .before .before .before .before .before .before .before .args .t .now) (c .before .before .before .before .before .before .before .pre .0) (c .before .before .before .before .before .before .before .args .a) (c .before .before .before .before .before .before .before .args .b) (c .before .before .before .before .before .before .before .pre .1) (c .before .before .before .before .before .before .before .pre .2) (c .before .before .before .before .before .before .before .pre .3) (c .before .before .before .before .before .before .before .args .ca) (c .before .before .before .before .before .before .before .args .cb) (c .before .before .before .before .before .before .before .args .outcome) (c .before .own-of2 .result) (c .before .own-of2 .ensures) (c .if2 .taken)
+returns-2 c =
+    let at-own-of2 = c .before in
+    let start = at-own-of2 .before .before .before .before .before .before in
+    backB (start .args .t .now) (start .args .a) (start .args .b) (start .args .ca) (start .args .cb) (start .args .outcome) (start .pre)
+    (at-own-of2 .own-of2 .result) (at-own-of2 .own-of2 .ensures) (c .if2 .taken)
 
 nodes-of-requires : tie.Need-nodes-of-requires
-nodes-of-requires c κs = search needs
+nodes-of-requires c κs =
+    let start = c .before .before .before .before .before .before .before .before in
+    start .pre .0
 
 slice-aggregate-opening : tie.Need-slice-aggregate-opening
 slice-aggregate-opening c = search needs
@@ -151,18 +160,40 @@ part-exchange-end-4 c = search needs
 
 exchange-requires : tie.Need-exchange-requires
 exchange-requires c κs =
-    let z : c .before .before .before .before .before .before .before .before .before .before .before .before .before .before .before .before .before .before .before .before .before .nodes-of .result - 0 ≡ c .before .before .before .before .before .before .before .before .before .before .before .before .before .before .before .before .before .before .before .before .before .nodes-of .result = omega arith in
-    ready (c .before .before .before .before .before .before .before .before .before .before .before .before .before .before .before .before .before .before .before .before .before .before .before .before .before .before .before .before .before .before .args .t .now) (c .before .before .before .before .before .before .before .before .before .before .before .before .before .before .before .before .before .before .before .before .before .before .before .before .before .before .before .before .before .before .pre .0) (c .before .before .before .before .before .before .before .before .before .before .before .before .before .before .before .before .before .before .before .before .before .before .before .before .before .before .before .before .before .before .args .a) (c .before .before .before .before .before .before .before .before .before .before .before .before .before .before .before .before .before .before .before .before .before .before .before .before .before .before .before .before .before .before .args .b) (c .before .before .before .before .before .before .before .before .before .before .before .before .before .before .before .before .before .before .before .before .before .before .before .before .before .before .before .before .before .before .pre .1) (c .before .before .before .before .before .before .before .before .before .before .before .before .before .before .before .before .before .before .before .before .before .before .before .before .before .before .before .before .before .before .pre .2) (c .before .before .before .before .before .before .before .before .before .before .before .before .before .before .before .before .before .before .before .before .before .before .before .before .before .before .before .before .before .before .pre .3) (c .before .before .before .before .before .before .before .before .before .before .before .before .before .before .before .before .before .before .before .before .before .before .before .before .before .before .before .before .before .before .args .ca) (c .before .before .before .before .before .before .before .before .before .before .before .before .before .before .before .before .before .before .before .before .before .before .before .before .before .before .before .before .before .before .args .cb) (c .before .before .before .before .before .before .before .before .before .before .before .before .before .before .before .before .before .before .before .before .before .before .before .before .before .before .before .before .before .before .args .outcome) (c .before .before .before .before .before .before .before .before .before .before .before .before .before .before .before .before .before .before .before .before .before .nodes-of .result) (c .before .before .before .before .before .before .before .before .before .before .before .before .before .before .before .before .before .before .before .before .before .nodes-of .ensures .0) (c .before .before .before .before .before .before .before .before .before .before .before .before .before .before .before .before .before .before .before .before .before .nodes-of .result - 0) z (c .before .before .before .before .before .before .before .before .before .before .before .before .before .before .before .before .before .opening .last .0) (c .before .before .before .before .before .before .before .before .before .before .before .before .before .before .before .before .before .opening .last .1 .0) (c .before .before .before .before .before .before .before .before .before .before .before .opening2 .last .0) (c .before .before .before .before .before .before .before .before .before .before .before .opening2 .last .1 .0) (c .before .before .before .before .before .before .before .before .before .before .before .before .before .before .before .before .before .opening .ensures) (c .before .before .before .before .before .before .before .before .before .before .before .opening2 .ensures)
+    let at-lent = c .before .before .before .before .before .before in
+    let at-opening2 = at-lent .before .before .before .before .before in
+    let at-opening = at-opening2 .before .before .before .before .before .before in
+    let at-nodes-of = at-opening .before .before .before .before in
+    let at-if2 = at-nodes-of .before .before in
+    let start = at-if2 .before .before .before .before .before .before .before in
+    let n = at-nodes-of .nodes-of .result - 0 in
+    let z : n ≡ at-nodes-of .nodes-of .result = omega arith in
+    ready (start .args .t .now) (start .args .a) (start .args .b) (start .args .ca) (start .args .cb) (start .args .outcome) (start .pre)
+    (at-nodes-of .nodes-of .result) (at-nodes-of .nodes-of .ensures .0) n z (at-opening .opening .last .0) (at-opening .opening .last .1 .0)
+    (at-opening2 .opening2 .last .0) (at-opening2 .opening2 .last .1 .0) (at-opening .opening .ensures) (at-opening2 .opening2 .ensures)
 
 same-length-3 : tie.Need-same-length-3
-same-length-3 c = search needs
+same-length-3 c = c .before .before .exchange .kept .0
 
 returns-3 : tie.Need-returns-3
-unfolding Right
 returns-3 c =
-    let z : c .before .before .before .before .before .before .before .before .before .before .before .before .before .before .before .before .before .before .before .before .before .before .before .before .nodes-of .result - 0 ≡ c .before .before .before .before .before .before .before .before .before .before .before .before .before .before .before .before .before .before .before .before .before .before .before .before .nodes-of .result = omega arith in
-    done (c .before .before .before .before .before .before .before .before .before .before .before .before .before .before .before .before .before .before .before .before .before .before .before .before .before .before .before .before .before .before .before .before .before .args .t .now) (c .before .before .before .before .before .before .before .before .before .before .before .before .before .before .before .before .before .before .before .before .before .before .before .before .before .before .before .before .before .before .before .before .before .pre .0) (c .before .before .before .before .before .before .before .before .before .before .before .before .before .before .before .before .before .before .before .before .before .before .before .before .before .before .before .before .before .before .before .before .before .args .a) (c .before .before .before .before .before .before .before .before .before .before .before .before .before .before .before .before .before .before .before .before .before .before .before .before .before .before .before .before .before .before .before .before .before .args .b) (c .before .before .before .before .before .before .before .before .before .before .before .before .before .before .before .before .before .before .before .before .before .before .before .before .before .before .before .before .before .before .before .before .before .pre .1) (c .before .before .before .before .before .before .before .before .before .before .before .before .before .before .before .before .before .before .before .before .before .before .before .before .before .before .before .before .before .before .before .before .before .pre .2) (c .before .before .before .before .before .before .before .before .before .before .before .before .before .before .before .before .before .before .before .before .before .before .before .before .before .before .before .before .before .before .before .before .before .pre .3) (c .before .before .before .before .before .before .before .before .before .before .before .before .before .before .before .before .before .before .before .before .before .before .before .before .before .before .before .before .before .before .before .before .before .args .ca) (c .before .before .before .before .before .before .before .before .before .before .before .before .before .before .before .before .before .before .before .before .before .before .before .before .before .before .before .before .before .before .before .before .before .args .cb) (c .before .before .before .before .before .before .before .before .before .before .before .before .before .before .before .before .before .before .before .before .before .before .before .before .before .before .before .before .before .before .before .before .before .args .outcome) (c .before .before .before .before .before .before .before .before .before .before .before .before .before .before .before .before .before .before .before .before .before .before .before .before .nodes-of .result) (c .before .before .before .before .before .before .before .before .before .before .before .before .before .before .before .before .before .before .before .before .before .before .before .before .nodes-of .ensures .0) (c .before .before .before .before .before .before .before .before .before .before .before .before .before .before .before .before .before .before .before .before .before .before .before .before .nodes-of .result - 0) z (c .before .before .before .before .before .before .before .before .before .before .before .before .before .before .before .before .before .before .before .before .opening .last .0) (c .before .before .before .before .before .before .before .before .before .before .before .before .before .before .before .before .before .before .before .before .opening .last .1 .0) (c .before .before .before .before .before .before .before .before .before .before .before .before .before .before .opening2 .last .0) (c .before .before .before .before .before .before .before .before .before .before .before .before .before .before .opening2 .last .1 .0) (c .before .before .before .before .before .before .before .before .before .before .before .before .before .before .before .before .before .before .before .before .opening .ensures) (c .before .before .before .before .before .before .before .before .before .before .before .before .before .before .opening2 .ensures)
-    (c .before .before .before .before .before .before .before .before .before .before .before .before .before .before .before .before .before .before .before .before .before .before .before .before .before .before .before .before .before .before .own-of .result) (c .before .before .before .before .before .before .before .before .before .before .before .before .before .before .before .before .before .before .before .before .before .before .before .before .before .before .before .own-of2 .result) (c .before .before .before .before .before .before .before .before .before .before .before .before .before .before .before .before .before .before .before .before .before .before .before .before .before .before .before .before .before .before .own-of .ensures) (c .before .before .before .before .before .before .before .before .before .before .before .before .before .before .before .before .before .before .before .before .before .before .before .before .before .before .before .before .before .if1 .left) (c .before .before .before .before .before .before .before .before .before .before .before .before .before .before .before .before .before .before .before .before .before .before .before .before .before .before .before .own-of2 .ensures) (c .before .before .before .before .before .before .before .before .before .before .before .before .before .before .before .before .before .before .before .before .before .before .before .before .before .before .if2 .left) (c .before .before .exchange .result) (c .before .before .exchange .last .0) (c .before .before .exchange .ensures)
+    let at-exchange = c .before .before in
+    let at-lent = at-exchange .before .before .before .before .before .before .before in
+    let at-opening2 = at-lent .before .before .before .before .before in
+    let at-opening = at-opening2 .before .before .before .before .before .before in
+    let at-nodes-of = at-opening .before .before .before .before in
+    let at-if2 = at-nodes-of .before .before in
+    let at-own-of2 = at-if2 .before in
+    let at-if1 = at-own-of2 .before .before in
+    let at-own-of = at-if1 .before in
+    let start = at-own-of .before .before .before in
+    let n = at-nodes-of .nodes-of .result - 0 in
+    let z : n ≡ at-nodes-of .nodes-of .result = omega arith in
+    done (start .args .t .now) (start .args .a) (start .args .b) (start .args .ca) (start .args .cb) (start .args .outcome) (start .pre)
+    (at-nodes-of .nodes-of .result) (at-nodes-of .nodes-of .ensures .0) n z (at-opening .opening .last .0) (at-opening .opening .last .1 .0)
+    (at-opening2 .opening2 .last .0) (at-opening2 .opening2 .last .1 .0) (at-opening .opening .ensures) (at-opening2 .opening2 .ensures)
+    (at-own-of .own-of .result) (at-own-of2 .own-of2 .result) (at-own-of .own-of .ensures) (at-if1 .if1 .left) (at-own-of2 .own-of2 .ensures)
+    (at-if2 .if2 .left) (at-exchange .exchange .ensures)
 
 pub meet-spec : {M : Type 1} → statement M
 meet-spec =

@@ -1,98 +1,98 @@
 -- `sessions::session` meets its contract: the refusals in their order, or the meeting.
-use mathlib.Core.Path.{_≡_, ap, sym, _∙_}
-use mathlib.Core.Bool.{or-true}
+use mathlib.Core.Path.{_≡_, refl}
 use mathlib.Core.List.{List}
 use Prim.Native.Nat.{ℕ, _<_, _≤_}
 use native.Mathlib.Omega.{arith}
-use borrow.Author.Tests.{lt-ltb, le-ltb, le-leb, lt-leb, eq-eqb, ne-eqb}
-use lib.Dec.{leb}
-use Rattle.meaning.specs.declared.Reply.{Reply}
 use Rattle.meaning.specs.declared.Reply.the-variants.{Refused}
 use Rattle.meaning.specs.declared.Action.the-variants.{Session}
-use Rattle.meaning.specs.Rows.{given, unless}
-use Rattle.meaning.specs.Table.{count}
-use Rattle.meaning.specs.Steps.{clockBack, noRoom, acted, reported, replied, refusal, reply, after}
-use Rattle.meaning.proofs.TableLaws.{Sound}
-use Rattle.meaning.proofs.StepLaws.{session-refusal, refuse}
+use Rattle.meaning.specs.Table.{count, Sound}
+use Rattle.meaning.proofs.StepLaws.{session-is-2, session-is-3-a, session-is-3-b, session-is-4, refuse}
+use Rattle.looks.specs.Applied.{Applied}
 use borrow.Author.Needs.{needs}
 use Rattle.sessions.proofs.session.Statement.{statement}
 use Rattle.sessions.proofs.session.Tie as tie
-use Rattle.sessions.proofs.session.Reads as reads
-use Rattle.sessions.proofs.session.Lts as lts
-use Rattle.actions.proofs.look.nodes_of.Reads as nodes-of-reads
-use Rattle.sessions.proofs.meet.Reads as meet-reads
 
 module _ (t : List ℕ) (s : Sound t) (a b ca cb o : ℕ) where
-  Refuses : ℕ → Type 0
-  Refuses k = (Refused k ≡ reply t (Session a b ca cb o)) × (t ≡ after t (Session a b ca cb o))
+  abbrev Refuses : ℕ → Type 0
+  Refuses k = Applied t (Session a b ca cb o) (Refused k) t
 
   outcome : 3 < o → Refuses 2
-  unfolding Refuses
-  outcome h = refuse t (Session a b ca cb o) 1 (session-refusal t s a b ca cb o ∙ rw (lt-ltb 3 o h))
+  outcome h = refuse t (Session a b ca cb o) 1 (session-is-2 t s a b ca cb o h)
 
   module _ (ho : o ≤ 3) (n : ℕ) (en : n ≡ count t) where
     absentA : n ≤ a → Refuses 3
-    unfolding Refuses
-    absentA h = refuse t (Session a b ca cb o) 2 (session-refusal t s a b ca cb o ∙ rw (le-ltb 3 o ho, le-leb (count t) a (omega arith)))
+    absentA h = refuse t (Session a b ca cb o) 2 (session-is-3-a t s a b ca cb o ho (omega arith))
 
     absentB : n ≤ b → Refuses 3
-    unfolding Refuses
-    absentB h = refuse t (Session a b ca cb o) 2 (session-refusal t s a b ca cb o ∙ rw (le-ltb 3 o ho, le-leb (count t) b (omega arith), or-true (leb (count t) a)))
+    absentB h = refuse t (Session a b ca cb o) 2 (session-is-3-b t s a b ca cb o ho (omega arith))
 
-    module _ (ha : a < n) (hb : b < n) where
-      twice : a ≡ b → Refuses 4
-      unfolding Refuses
-      twice e = refuse t (Session a b ca cb o) 3 (session-refusal t s a b ca cb o ∙ rw (le-ltb 3 o ho, lt-leb (count t) a (omega arith), lt-leb (count t) b (omega arith), eq-eqb a b e))
+    twice : a < n → b < n → a ≡ b → Refuses 4
+    twice ha hb e = refuse t (Session a b ca cb o) 3 (session-is-4 t s a b ca cb o ho (omega arith) (omega arith) e)
 
-      later : (a ≡ b → ⊥) → refusal t (Session a b ca cb o) ≡ given (clockBack t (Session a b ca cb o)) 5 (given (noRoom t (Session a b ca cb o)) 6 0)
-      later e = session-refusal t s a b ca cb o ∙ rw (le-ltb 3 o ho, lt-leb (count t) a (omega arith), lt-leb (count t) b (omega arith), ne-eqb a b e)
-
-      done :
-          (a ≡ b → ⊥) → (r : Reply) (u : List ℕ) →
-          (r ≡ replied (given (clockBack t (Session a b ca cb o)) 5 (given (noRoom t (Session a b ca cb o)) 6 0)) (reported t (Session a b ca cb o))) ×
-          (u ≡ unless (given (clockBack t (Session a b ca cb o)) 5 (given (noRoom t (Session a b ca cb o)) 6 0)) (acted t (Session a b ca cb o)) t) →
-          (r ≡ reply t (Session a b ca cb o)) × (u ≡ after t (Session a b ca cb o))
-      unfolding reply after
-      done e r u g =
-          (g .0 ∙ ap (λ (k : ℕ). replied k (reported t (Session a b ca cb o))) (sym (later e)), g .1 ∙ ap (λ (k : ℕ). unless k (acted t (Session a b ca cb o)) t) (sym (later e)))
+-- what `meet` asks
+ready :
+    (t : List ℕ) → Sound t → {n a b o : ℕ} → n ≡ count t → a < n → b < n → (a ≡ b → ⊥) → o ≤ 3 →
+    Sound t × (a < count t) × (b < count t) × (a ≡ b → ⊥) × (o ≤ 3)
+ready t s e ha hb apart ho = (s, omega arith, omega arith, apart, ho)
 
 returns : tie.Need-returns
-unfolding Refuses
-returns c = outcome (c .before .before .args .t .now) (c .before .before .pre) (c .before .before .args .a) (c .before .before .args .b) (c .before .before .args .ca) (c .before .before .args .cb) (c .before .before .args .outcome) (c .if1 .taken)
+returns c =
+    let start = c .before .before in
+    outcome (start .args .t .now) (start .pre) (start .args .a) (start .args .b) (start .args .ca) (start .args .cb) (start .args .outcome) (c .if1 .taken)
 
 nodes-of-requires : tie.Need-nodes-of-requires
 nodes-of-requires c κs = search needs
 
 same-length : tie.Need-same-length
-same-length c = search needs
+same-length c = refl
 
 returns-2 : tie.Need-returns-2
-unfolding Refuses
-returns-2 c = absentA (c .before .before .before .before .before .args .t .now) (c .before .before .before .before .before .pre) (c .before .before .before .before .before .args .a) (c .before .before .before .before .before .args .b) (c .before .before .before .before .before .args .ca) (c .before .before .before .before .before .args .cb) (c .before .before .before .before .before .args .outcome) (c .before .before .before .if1 .left) (c .before .nodes-of .result) (c .before .nodes-of .ensures .0) (c .if2 .taken)
+returns-2 c =
+    let at-nodes-of = c .before in
+    let at-if1 = at-nodes-of .before .before in
+    let start = at-if1 .before .before in
+    absentA (start .args .t .now) (start .pre) (start .args .a) (start .args .b) (start .args .ca) (start .args .cb) (start .args .outcome)
+    (at-if1 .if1 .left) (at-nodes-of .nodes-of .result) (at-nodes-of .nodes-of .ensures .0) (c .if2 .taken)
 
 same-length-2 : tie.Need-same-length-2
-same-length-2 c = search needs
+same-length-2 c = refl
 
 returns-3 : tie.Need-returns-3
-unfolding Refuses
-returns-3 c = absentB (c .before .before .before .before .before .before .args .t .now) (c .before .before .before .before .before .before .pre) (c .before .before .before .before .before .before .args .a) (c .before .before .before .before .before .before .args .b) (c .before .before .before .before .before .before .args .ca) (c .before .before .before .before .before .before .args .cb) (c .before .before .before .before .before .before .args .outcome) (c .before .before .before .before .if1 .left) (c .before .before .nodes-of .result) (c .before .before .nodes-of .ensures .0) (c .if3 .taken)
+returns-3 c =
+    let at-nodes-of = c .before .before in
+    let at-if1 = at-nodes-of .before .before in
+    let start = at-if1 .before .before in
+    absentB (start .args .t .now) (start .pre) (start .args .a) (start .args .b) (start .args .ca) (start .args .cb) (start .args .outcome)
+    (at-if1 .if1 .left) (at-nodes-of .nodes-of .result) (at-nodes-of .nodes-of .ensures .0) (c .if3 .taken)
 
 same-length-3 : tie.Need-same-length-3
-same-length-3 c = search needs
+same-length-3 c = refl
 
 returns-4 : tie.Need-returns-4
-unfolding Refuses
-returns-4 c = twice (c .before .before .before .before .before .before .before .args .t .now) (c .before .before .before .before .before .before .before .pre) (c .before .before .before .before .before .before .before .args .a) (c .before .before .before .before .before .before .before .args .b) (c .before .before .before .before .before .before .before .args .ca) (c .before .before .before .before .before .before .before .args .cb) (c .before .before .before .before .before .before .before .args .outcome) (c .before .before .before .before .before .if1 .left) (c .before .before .before .nodes-of .result) (c .before .before .before .nodes-of .ensures .0) (c .before .before .if2 .left) (c .before .if3 .left) (c .if4 .taken)
+returns-4 c =
+    let at-if3 = c .before in
+    let at-if2 = at-if3 .before in
+    let at-nodes-of = at-if2 .before in
+    let at-if1 = at-nodes-of .before .before in
+    let start = at-if1 .before .before in
+    twice (start .args .t .now) (start .pre) (start .args .a) (start .args .b) (start .args .ca) (start .args .cb) (start .args .outcome)
+    (at-if1 .if1 .left) (at-nodes-of .nodes-of .result) (at-nodes-of .nodes-of .ensures .0) (at-if2 .if2 .left) (at-if3 .if3 .left) (c .if4 .taken)
 
 meet-requires : tie.Need-meet-requires
-meet-requires c κs = search needs
+meet-requires c κs =
+    let at-if4 = c .before in
+    let at-if3 = at-if4 .before in
+    let at-if2 = at-if3 .before in
+    let at-nodes-of = at-if2 .before in
+    let at-if1 = at-nodes-of .before .before in
+    let start = at-if1 .before .before in
+    ready (start .args .t .now) (start .pre) (at-nodes-of .nodes-of .ensures .0) (at-if2 .if2 .left) (at-if3 .if3 .left) (at-if4 .if4 .left) (at-if1 .if1 .left)
 
 same-length-4 : tie.Need-same-length-4
-same-length-4 c = search needs
+same-length-4 c = c .before .before .meet .kept .0
 
 returns-5 : tie.Need-returns-5
-unfolding Refuses
-returns-5 c = done (c .before .before .before .before .before .before .before .before .before .before .before .args .t .now) (c .before .before .before .before .before .before .before .before .before .before .before .pre) (c .before .before .before .before .before .before .before .before .before .before .before .args .a) (c .before .before .before .before .before .before .before .before .before .before .before .args .b) (c .before .before .before .before .before .before .before .before .before .before .before .args .ca) (c .before .before .before .before .before .before .before .before .before .before .before .args .cb) (c .before .before .before .before .before .before .before .before .before .before .before .args .outcome) (c .before .before .before .before .before .before .before .before .before .if1 .left) (c .before .before .before .before .before .before .before .nodes-of .result) (c .before .before .before .before .before .before .before .nodes-of .ensures .0) (c .before .before .before .before .before .before .if2 .left) (c .before .before .before .before .before .if3 .left) (c .before .before .before .before .if4 .left) (c .before .before .meet .result) (c .before .before .meet .last .0) (c .before .before .meet .ensures)
+returns-5 c = c .before .before .meet .ensures
 
 pub session-spec : {M : Type 1} → statement M
 session-spec =

@@ -24,7 +24,11 @@ logs-sound-requires : tie.Need-logs-sound-requires
 logs-sound-requires c κs = search needs
 
 returns-4 : tie.Need-returns-4
-returns-4 c = sound-logs _ _ _ (omega arith) (c .before .before .before .count-of .ensures) (c .before .before .if2 .left) (c .before .if3 .left) (c .logs-sound .ensures)
+returns-4 c =
+    let at-if3 = c .before in
+    let at-if2 = at-if3 .before in
+    let at-count-of = at-if2 .before in
+    sound-logs _ _ _ (omega arith) (at-count-of .count-of .ensures) (at-if2 .if2 .left) (at-if3 .if3 .left) (c .logs-sound .ensures)
 
 pub is-sound-spec : {M : Type 1} → statement M
 is-sound-spec =

@@ -40,7 +40,12 @@ records-sound-requires : tie.Need-records-sound-requires
 records-sound-requires c κs = search needs
 
 returns-2 : tie.Need-returns-2
-returns-2 c = log-scanned _ _ _ _ _ (c .before .before .log-at .result + 4 * c .before .before .before .before .held-of .result - c .before .before .log-at .result) _ (c .before .before .before .before .before .before .pre .1) (c .before .before .before .before .held-of .ensures) (omega arith) (c .before .before .log-at .ensures) (c .records-sound .ensures) (omega arith)
+returns-2 c =
+    let at-log-at = c .before .before in
+    let at-held-of = at-log-at .before .before in
+    let start = at-held-of .before .before in
+    log-scanned _ _ _ _ _ (at-log-at .log-at .result + 4 * at-held-of .held-of .result - at-log-at .log-at .result) _ (start .pre .1)
+    (at-held-of .held-of .ensures) (omega arith) (at-log-at .log-at .ensures) (c .records-sound .ensures) (omega arith)
 
 pub log-sound-spec : {M : Type 1} → statement M
 log-sound-spec =

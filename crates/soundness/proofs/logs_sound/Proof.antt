@@ -24,7 +24,10 @@ log-sound-requires : tie.Need-log-sound-requires Inv-loop μ-loop
 log-sound-requires c κs = search needs
 
 returns : tie.Need-returns Inv-loop μ-loop
-returns c = sym (every-not _ _ _ (c .before .before .loop-test .taken) (sym (c .before .log-sound .ensures) ∙ not-true (c .before .log-sound .result) (c .if1 .taken)))
+returns c =
+    let at-log-sound = c .before in
+    let at-loop-test = at-log-sound .before in
+    sym (every-not _ _ _ (at-loop-test .loop-test .taken) (sym (at-log-sound .log-sound .ensures) ∙ not-true (at-log-sound .log-sound .result) (c .if1 .taken)))
 
 add-p : tie.Need-add-p Inv-loop μ-loop
 add-p c = omega arith
@@ -33,7 +36,10 @@ loop-less : tie.Need-loop-less Inv-loop μ-loop
 loop-less c = omega arith
 
 loop-again : tie.Need-loop-again Inv-loop μ-loop
-loop-again c = (omega arith, every-last _ _ (c .before .before .before .loop .inv .1) (sym (c .before .log-sound .ensures) ∙ not-false (c .before .log-sound .result) (c .if1 .left)))
+loop-again c =
+    let at-log-sound = c .before in
+    let at-loop = at-log-sound .before .before in
+    (omega arith, every-last _ _ (at-loop .loop .inv .1) (sym (at-log-sound .log-sound .ensures) ∙ not-false (at-log-sound .log-sound .result) (c .if1 .left)))
 
 returns-2 : tie.Need-returns-2 Inv-loop μ-loop
 returns-2 c = every-whole _ _ _ (c .before .loop .inv .0) (omega arith) (c .before .loop .inv .1)

@@ -56,13 +56,21 @@ loop-less : tie.Need-loop-less Inv-loop μ-loop
 loop-less c = omega arith
 
 loop-again : tie.Need-loop-again Inv-loop μ-loop
-loop-again c = (omega arith, scan-more _ _ _ _ _ _ _ (c .before .before .greater .ensures) (c .greater2 .ensures) (c .before .before .before .before .before .loop .inv .1))
+loop-again c =
+    let at-greater = c .before .before in
+    let at-loop = at-greater .before .before .before in
+    (omega arith, scan-more _ _ _ _ _ _ _ (at-greater .greater .ensures) (c .greater2 .ensures) (at-loop .loop .inv .1))
 
 returns : tie.Need-returns Inv-loop μ-loop
-returns c = scan-ends _ _ true _ _ _ (c .before .before .loop .verdict) (c .before .before .loop .inv .0) (omega arith) (lt-ltb _ _ (c .if1 .taken)) (c .before .before .loop .inv .1)
+returns c =
+    let at-loop = c .before .before in
+    scan-ends _ _ true _ _ _ (at-loop .loop .verdict) (at-loop .loop .inv .0) (omega arith) (lt-ltb _ _ (c .if1 .taken)) (at-loop .loop .inv .1)
 
 returns-2 : tie.Need-returns-2 Inv-loop μ-loop
-returns-2 c = le-ltb _ _ (c .if1 .left) ∙ scan-ends _ _ false _ _ _ (c .before .before .loop .verdict) (c .before .before .loop .inv .0) (omega arith) (le-ltb _ _ (c .if1 .left)) (c .before .before .loop .inv .1)
+returns-2 c =
+    let at-loop = c .before .before in
+    le-ltb _ _ (c .if1 .left) ∙ scan-ends _ _ false _ _ _ (at-loop .loop .verdict) (at-loop .loop .inv .0) (omega arith) (le-ltb _ _ (c .if1 .left))
+    (at-loop .loop .inv .1)
 
 pub records-sound-spec : {M : Type 1} → statement M
 records-sound-spec =

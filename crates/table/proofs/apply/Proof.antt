@@ -6,10 +6,6 @@ use Rattle.meaning.proofs.StepLaws.{refuse, unsound-refusal}
 use borrow.Author.Needs.{needs}
 use Rattle.table.proofs.apply.Statement.{statement}
 use Rattle.table.proofs.apply.Tie as tie
-use Rattle.table.proofs.apply.Reads as reads
-use Rattle.table.proofs.apply.Lts as lts
-use Rattle.soundness.proofs.is_sound.Reads as is-sound-reads
-use Rattle.table.proofs.apply_sound.Reads as apply-sound-reads
 
 is-sound-requires : tie.Need-is-sound-requires
 is-sound-requires c κs = search needs
@@ -18,10 +14,19 @@ same-length : tie.Need-same-length
 same-length c = search needs
 
 returns : tie.Need-returns
-returns c = refuse (c .before .before .before .before .args .t .now) (c .before .before .before .before .args .step .action) 0 (unsound-refusal (c .before .before .before .before .args .t .now) (c .before .before .before .before .args .step .action) (sym (c .before .is-sound .ensures) ∙ not-true (c .before .is-sound .result) (c .if1 .taken)))
+returns c =
+    let at-is-sound = c .before in
+    let start = at-is-sound .before .before .before in
+    refuse (start .args .t .now) (start .args .step .action) 0
+    (unsound-refusal (start .args .t .now) (start .args .step .action)
+    (sym (at-is-sound .is-sound .ensures) ∙ not-true (at-is-sound .is-sound .result) (c .if1 .taken)))
 
 apply-sound-requires : tie.Need-apply-sound-requires
-apply-sound-requires c κs = sound-facts (c .before .before .before .before .before .args .t .now) (sym (c .before .before .is-sound .ensures) ∙ not-false (c .before .before .is-sound .result) (c .before .if1 .left))
+apply-sound-requires c κs =
+    let at-if1 = c .before in
+    let at-is-sound = at-if1 .before in
+    let start = at-is-sound .before .before .before in
+    sound-facts (start .args .t .now) (sym (at-is-sound .is-sound .ensures) ∙ not-false (at-is-sound .is-sound .result) (at-if1 .if1 .left))
 
 same-length-2 : tie.Need-same-length-2
 same-length-2 c = search needs

@@ -2,11 +2,6 @@
 use borrow.Author.Needs.{needs}
 use Rattle.table.proofs.apply_sound.Statement.{statement}
 use Rattle.table.proofs.apply_sound.Tie as tie
-use Rattle.table.proofs.apply_sound.Reads as reads
-use Rattle.table.proofs.apply_sound.Lts as lts
-use Rattle.actions.proofs.purge.purge.Reads as purge-reads
-use Rattle.sessions.proofs.session.Reads as session-reads
-use Rattle.actions.proofs.write.write.Reads as write-reads
 
 enum-known-action : tie.Need-enum-known-action
 enum-known-action c = search needs
@@ -30,19 +25,28 @@ same-length : tie.Need-same-length
 same-length c = search needs
 
 returns : tie.Need-returns
-returns c = rw (c .before .before .before .before .before .action .given .1) (c .before .before .write .ensures)
+returns c =
+    let at-write = c .before .before in
+    let at-action = at-write .before .before .before in
+    rw (at-action .action .given .1) (at-write .write .ensures)
 
 same-length-2 : tie.Need-same-length-2
 same-length-2 c = search needs
 
 returns-2 : tie.Need-returns-2
-returns-2 c = rw (c .before .before .before .before .before .action2 .given .1) (c .before .before .session .ensures)
+returns-2 c =
+    let at-session = c .before .before in
+    let at-action2 = at-session .before .before .before in
+    rw (at-action2 .action2 .given .1) (at-session .session .ensures)
 
 same-length-3 : tie.Need-same-length-3
 same-length-3 c = search needs
 
 returns-3 : tie.Need-returns-3
-returns-3 c = rw (c .before .before .before .before .before .action3 .given .1) (c .before .before .purge .ensures)
+returns-3 c =
+    let at-purge = c .before .before in
+    let at-action3 = at-purge .before .before .before in
+    rw (at-action3 .action3 .given .1) (at-purge .purge .ensures)
 
 pub apply-sound-spec : {M : Type 1} → statement M
 apply-sound-spec =

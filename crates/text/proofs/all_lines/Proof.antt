@@ -1,7 +1,7 @@
 -- `all_lines` is the first line and the nodes' lines.
+use mathlib.Core.Path.{refl}
 use native.Mathlib.Omega.{arith}
-use denote.Ref.{now}
-use Rattle.text.proofs.Writing.{wrote-as, wrote-then, done-is}
+use Rattle.printing.proofs.Writing.{wrote-as, wrote-then}
 use borrow.Author.Needs.{needs}
 use Rattle.text.proofs.all_lines.Statement.{statement}
 use Rattle.text.proofs.all_lines.Tie as tie
@@ -17,8 +17,10 @@ same-length c = search needs
 
 returns : tie.Need-returns
 returns c =
-    let s = c .before .before .before .before .before .before .before .before .before .before in
-    wrote-as (done-is (s .args .n) (s .args .steps) (s .args .refused) (now (s .args .t))) (omega arith) (wrote-then (omega arith) (c .before .before .before .before .before .before .first-line .ensures) (c .before .before .node-lines .ensures))
+    let at-lines = c .before .before in
+    let at-first = at-lines .before .before .before .before in
+    let s = at-first .before .before .before .before in
+    wrote-as refl (omega arith) (wrote-then (omega arith) (at-first .first-line .ensures) (at-lines .node-lines .ensures))
 
 pub all-lines-spec : {M : Type 1} → statement M
 all-lines-spec = tie.close (tie.spec first-line-requires node-lines-requires same-length returns)

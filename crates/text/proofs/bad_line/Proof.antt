@@ -1,6 +1,7 @@
 -- `bad_line` is three texts, one after the other.
 use native.Mathlib.Omega.{arith}
-use Rattle.text.proofs.Writing.{wrote-as, wrote-then, bad-is}
+use Rattle.printing.proofs.Writing.{wrote-as, wrote-then}
+use Rattle.text.proofs.Lines.{bad-is}
 use borrow.Author.Needs.{needs}
 use Rattle.text.proofs.bad_line.Statement.{statement}
 use Rattle.text.proofs.bad_line.Tie as tie
@@ -22,11 +23,14 @@ same-length c = search needs
 
 returns : tie.Need-returns
 returns c =
-    let s = c .before .before .before .before .before .before .before .before .before .before .before .before .before .before in
-    let k₁ = c .before .before .before .before .before .before .before .before .before .before .said-one .kept .0 in
-    let w₁ = c .before .before .before .before .before .before .before .before .before .before .said-one .ensures .within in
+    let at-put = c .before .before in
+    let at-entry = at-put .before .before .before .before in
+    let at-said-one = at-entry .before .before .before .before in
+    let s = at-said-one .before .before .before .before in
+    let k₁ = at-said-one .said-one .kept .0 in
+    let w₁ = at-said-one .said-one .ensures .within in
     wrote-as (bad-is (s .args .line) (s .args .number)) (omega arith)
-    (wrote-then (omega arith) (c .before .before .before .before .before .before .before .before .before .before .said-one .ensures) (wrote-then (omega (arith, s .pre)) (c .before .before .before .before .before .before .entry .ensures) (c .before .before .put .ensures)))
+    (wrote-then (omega arith) (at-said-one .said-one .ensures) (wrote-then (omega (arith, s .pre)) (at-entry .entry .ensures) (at-put .put .ensures)))
 
 pub bad-line-spec : {M : Type 1} → statement M
 bad-line-spec =

@@ -8,7 +8,8 @@ use denote.Ref.{now}
 use Rattle.meaning.specs.declared.Outcome.the-variants.{Done}
 use Rattle.meaning.specs.Table.{tableWords, nodesMost, count}
 use Rattle.text.specs.Text.{textMost, hasNodes}
-use Rattle.text.proofs.Writing.{wrote-as, wrote-none, count-is, text-none, text-whole}
+use Rattle.printing.proofs.Writing.{wrote-as, wrote-none}
+use Rattle.text.proofs.Lines.{count-is, text-none, text-whole}
 use borrow.Author.Needs.{needs}
 use Rattle.text.proofs.done_text.Statement.{statement}
 use Rattle.text.proofs.done_text.Tie as tie
@@ -16,7 +17,10 @@ use Rattle.text.proofs.done_text.Tie as tie
 returns : tie.Need-returns
 returns c =
     let s = c .before .before .before in
-    wrote-as (text-none (now (s .args .out)) (Done (s .args .n) (s .args .steps) (s .args .refused)) (now (s .args .t)) (s .pre) (rw (ne-eqb (length (now (s .args .t))) tableWords (c .if1 .taken)))) (omega arith) (wrote-none (now (s .args .out)) 0 textMost)
+    let out = now (s .args .out) in
+    let t = now (s .args .t) in
+    let x = Done (s .args .n) (s .args .steps) (s .args .refused) in
+    wrote-as (text-none out x t (s .pre) (rw (ne-eqb (length t) tableWords (c .if1 .taken)))) (omega arith) (wrote-none out 0 textMost)
 
 cast-if2 : tie.Need-cast-if2
 cast-if2 c = search needs
@@ -26,18 +30,31 @@ shared-slice-read-if2 c = search needs
 
 returns-2 : tie.Need-returns-2
 returns-2 c =
-    let s = c .before .before .before .before .before in
-    let e = count-is (now (s .args .t)) in
-    wrote-as (text-none (now (s .args .out)) (Done (s .args .n) (s .args .steps) (s .args .refused)) (now (s .args .t)) (s .pre) (rw (eq-eqb (length (now (s .args .t))) tableWords (c .before .before .if1 .left), lt-leb (count (now (s .args .t))) nodesMost (omega arith)))) (omega arith) (wrote-none (now (s .args .out)) 0 textMost)
+    let at-if1 = c .before .before in
+    let s = at-if1 .before .before .before in
+    let out = now (s .args .out) in
+    let t = now (s .args .t) in
+    let x = Done (s .args .n) (s .args .steps) (s .args .refused) in
+    let e = count-is t in
+    let long = eq-eqb (length t) tableWords (at-if1 .if1 .left) in
+    let many = lt-leb (count t) nodesMost (omega arith) in
+    wrote-as (text-none out x t (s .pre) (rw (long, many))) (omega arith) (wrote-none out 0 textMost)
 
 cast-if3 : tie.Need-cast-if3
 cast-if3 c = search needs
 
 returns-3 : tie.Need-returns-3
 returns-3 c =
-    let s = c .before .before .before .before .before .before in
-    let e = count-is (now (s .args .t)) in
-    wrote-as (text-none (now (s .args .out)) (Done (s .args .n) (s .args .steps) (s .args .refused)) (now (s .args .t)) (s .pre) (rw (eq-eqb (length (now (s .args .t))) tableWords (c .before .before .before .if1 .left), le-leb (count (now (s .args .t))) nodesMost (omega arith), lt-leb (s .args .n) nodesMost (c .if3 .taken)))) (omega arith) (wrote-none (now (s .args .out)) 0 textMost)
+    let at-if1 = c .before .before .before in
+    let s = at-if1 .before .before .before in
+    let out = now (s .args .out) in
+    let t = now (s .args .t) in
+    let x = Done (s .args .n) (s .args .steps) (s .args .refused) in
+    let e = count-is t in
+    let long = eq-eqb (length t) tableWords (at-if1 .if1 .left) in
+    let few = le-leb (count t) nodesMost (omega arith) in
+    let many = lt-leb (s .args .n) nodesMost (c .if3 .taken) in
+    wrote-as (text-none out x t (s .pre) (rw (long, few, many))) (omega arith) (wrote-none out 0 textMost)
 
 all-lines-requires : tie.Need-all-lines-requires
 all-lines-requires c κs =
@@ -49,11 +66,18 @@ same-length c = search needs
 
 returns-4 : tie.Need-returns-4
 returns-4 c =
-    let s = c .before .before .before .before .before .before .before .before .before .before in
-    let e = count-is (now (s .args .t)) in
-    let h : hasNodes (Done (s .args .n) (s .args .steps) (s .args .refused)) (now (s .args .t)) ≡ true =
-    rw (eq-eqb (length (now (s .args .t))) tableWords (c .before .before .before .before .before .before .before .if1 .left), le-leb (count (now (s .args .t))) nodesMost (omega arith), le-leb (s .args .n) nodesMost (c .before .before .before .before .if3 .left)) in
-    wrote-as (text-whole (now (s .args .out)) (Done (s .args .n) (s .args .steps) (s .args .refused)) (now (s .args .t)) (s .pre) h) (omega arith) (c .before .before .all-lines .ensures)
+    let at-lines = c .before .before in
+    let at-if3 = at-lines .before .before in
+    let at-if1 = at-if3 .before .before .before in
+    let s = at-if1 .before .before .before in
+    let out = now (s .args .out) in
+    let t = now (s .args .t) in
+    let x = Done (s .args .n) (s .args .steps) (s .args .refused) in
+    let e = count-is t in
+    let long = eq-eqb (length t) tableWords (at-if1 .if1 .left) in
+    let few = le-leb (count t) nodesMost (omega arith) in
+    let h : hasNodes x t ≡ true = rw (long, few, le-leb (s .args .n) nodesMost (at-if3 .if3 .left)) in
+    wrote-as (text-whole out x t (s .pre) h) (omega arith) (at-lines .all-lines .ensures)
 
 pub done-text-spec : {M : Type 1} → statement M
 done-text-spec =

@@ -1,6 +1,7 @@
 -- `first_line` is four texts, one after the other.
 use native.Mathlib.Omega.{arith}
-use Rattle.text.proofs.Writing.{wrote-as, wrote-then, first-is}
+use Rattle.printing.proofs.Writing.{wrote-as, wrote-then}
+use Rattle.text.proofs.Lines.{first-is}
 use borrow.Author.Needs.{needs}
 use Rattle.text.proofs.first_line.Statement.{statement}
 use Rattle.text.proofs.first_line.Tie as tie
@@ -31,15 +32,19 @@ same-length c = search needs
 
 returns : tie.Need-returns
 returns c =
-    let s = c .before .before .before .before .before .before .before .before .before .before .before .before .before .before .before .before .before .before .before .before in
-    let k₁ = c .before .before .before .before .before .before .before .before .before .before .before .before .before .before .before .before .said-one .kept .0 in
-    let w₁ = c .before .before .before .before .before .before .before .before .before .before .before .before .before .before .before .before .said-one .ensures .within in
-    let k₂ = c .before .before .before .before .before .before .before .before .before .before .before .said-one2 .kept .0 in
-    let w₂ = c .before .before .before .before .before .before .before .before .before .before .before .said-one2 .ensures .within in
+    let at-put = c .before .before in
+    let at-said-one3 = at-put .before .before .before .before in
+    let at-said-one2 = at-said-one3 .before .before .before .before .before in
+    let at-said-one = at-said-one2 .before .before .before .before .before in
+    let s = at-said-one .before .before .before .before in
+    let k₁ = at-said-one .said-one .kept .0 in
+    let w₁ = at-said-one .said-one .ensures .within in
+    let k₂ = at-said-one2 .said-one2 .kept .0 in
+    let w₂ = at-said-one2 .said-one2 .ensures .within in
     wrote-as (first-is (s .args .n) (s .args .steps) (s .args .refused)) (omega arith)
-    (wrote-then (omega arith) (c .before .before .before .before .before .before .before .before .before .before .before .before .before .before .before .before .said-one .ensures)
-    (wrote-then (omega (arith, s .pre, k₁, w₁)) (c .before .before .before .before .before .before .before .before .before .before .before .said-one2 .ensures)
-    (wrote-then (omega (arith, s .pre, k₁, w₁, k₂, w₂)) (c .before .before .before .before .before .before .said-one3 .ensures) (c .before .before .put .ensures))))
+    (wrote-then (omega arith) (at-said-one .said-one .ensures)
+    (wrote-then (omega (arith, s .pre, k₁, w₁)) (at-said-one2 .said-one2 .ensures)
+    (wrote-then (omega (arith, s .pre, k₁, w₁, k₂, w₂)) (at-said-one3 .said-one3 .ensures) (at-put .put .ensures))))
 
 pub first-line-spec : {M : Type 1} → statement M
 first-line-spec =

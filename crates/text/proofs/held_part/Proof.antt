@@ -8,7 +8,8 @@ use denote.Ref.{now}
 use Rattle.meaning.specs.Rows.{ascii}
 use Rattle.meaning.specs.Table.{held}
 use Rattle.meaning.specs.Journals.{spaced}
-use Rattle.text.proofs.Writing.{wrote-as, held-is, said-is}
+use Rattle.printing.proofs.Writing.{wrote-as}
+use Rattle.text.proofs.Lines.{held-is, said-is}
 use borrow.Author.Needs.{needs}
 use Rattle.text.proofs.held_part.Statement.{statement}
 use Rattle.text.proofs.held_part.Tie as tie
@@ -36,10 +37,13 @@ same-length c = search needs
 
 returns : tie.Need-returns
 returns c =
-    let s = c .before .before .before .before .before .before .before .before .before in
-    let e : getD (now (s .args .t)) (c .before .before .before .before .before .before .held-at .result) 0 ≡ held (now (s .args .t)) (s .args .p) =
-    ap (λ (i : ℕ). getD (now (s .args .t)) i 0) (c .before .before .before .before .before .before .held-at .ensures) ∙ sym (held-is (now (s .args .t)) (s .args .p)) in
-    wrote-as (ap (λ (v : ℕ). ascii " L" ++ spaced (v ∷ [])) e ∙ said-is " L" (held (now (s .args .t)) (s .args .p) ∷ [])) (omega arith) (c .before .before .said-one .ensures)
+    let at-said = c .before .before in
+    let at-held = at-said .before .before .before .before in
+    let s = at-held .before .before .before in
+    let t = now (s .args .t) in
+    let e : getD t (at-held .held-at .result) 0 ≡ held t (s .args .p) = ap (λ (i : ℕ). getD t i 0) (at-held .held-at .ensures) ∙ sym (held-is t (s .args .p)) in
+    let said = ap (λ (v : ℕ). ascii " L" ++ spaced (v ∷ [])) e ∙ said-is " L" (held t (s .args .p) ∷ []) in
+    wrote-as said (omega arith) (at-said .said-one .ensures)
 
 pub held-part-spec : {M : Type 1} → statement M
 held-part-spec =

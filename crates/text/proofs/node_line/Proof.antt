@@ -7,8 +7,9 @@ use denote.Ref.{now}
 use Rattle.meaning.specs.Rows.{ascii}
 use Rattle.meaning.specs.Table.{summaryAt, acksAt, part, count}
 use Rattle.meaning.specs.Journals.{spaced}
-use Rattle.text.specs.Text.{Wrote}
-use Rattle.text.proofs.Writing.{wrote-as, wrote-then, line-is}
+use Rattle.printing.specs.Wrote.{Wrote}
+use Rattle.printing.proofs.Writing.{wrote-as, wrote-then}
+use Rattle.text.proofs.Lines.{line-is}
 use borrow.Author.Needs.{needs}
 use Rattle.text.proofs.node_line.Statement.{statement}
 use Rattle.text.proofs.node_line.Tie as tie
@@ -45,20 +46,30 @@ same-length c = search needs
 
 returns : tie.Need-returns
 returns c =
-    let s = c .before .before .before .before .before .before .before .before .before .before .before .before .before .before .before .before .before .before .before .before .before .before .before .before .before .before in
+    let at-put = c .before .before in
+    let at-held-part = at-put .before .before .before .before in
+    let at-vector2 = at-held-part .before .before .before .before in
+    let at-acks-at = at-vector2 .before in
+    let at-vector = at-acks-at .before .before .before .before .before in
+    let at-summary-at = at-vector .before in
+    let at-number = at-summary-at .before .before .before .before .before in
+    let s = at-number .before .before .before .before in
     let t = now (s .args .t) in
-    let k₁ = c .before .before .before .before .before .before .before .before .before .before .before .before .before .before .before .before .before .before .before .before .before .before .number .kept .0 in
-    let w₁ = c .before .before .before .before .before .before .before .before .before .before .before .before .before .before .before .before .before .before .before .before .before .before .number .ensures .within in
-    let k₂ = c .before .before .before .before .before .before .before .before .before .before .before .before .before .before .before .before .vector .kept .0 in
-    let w₂ = c .before .before .before .before .before .before .before .before .before .before .before .before .before .before .before .before .vector .ensures .within in
-    let k₃ = c .before .before .before .before .before .before .before .before .before .before .vector2 .kept .0 in
-    let w₃ = c .before .before .before .before .before .before .before .before .before .before .vector2 .ensures .within in
+    let k₁ = at-number .number .kept .0 in
+    let w₁ = at-number .number .ensures .within in
+    let k₂ = at-vector .vector .kept .0 in
+    let w₂ = at-vector .vector .ensures .within in
+    let k₃ = at-vector2 .vector2 .kept .0 in
+    let w₃ = at-vector2 .vector2 .ensures .within in
     let summary : Wrote _ _ (ascii " S" ++ spaced (part (summaryAt (s .args .p)) (count t) t)) 338 _ _ =
-    wrote-as (ap (λ (a : ℕ). ascii " S" ++ spaced (part a (count t) t)) (c .before .before .before .before .before .before .before .before .before .before .before .before .before .before .before .before .before .summary-at .ensures)) (omega arith) (c .before .before .before .before .before .before .before .before .before .before .before .before .before .before .before .before .vector .ensures) in
+    wrote-as (ap (λ (a : ℕ). ascii " S" ++ spaced (part a (count t) t)) (at-summary-at .summary-at .ensures)) (omega arith) (at-vector .vector .ensures) in
     let acks : Wrote _ _ (ascii " K" ++ spaced (part (acksAt (s .args .p)) (count t) t)) 338 _ _ =
-    wrote-as (ap (λ (a : ℕ). ascii " K" ++ spaced (part a (count t) t)) (c .before .before .before .before .before .before .before .before .before .before .before .acks-at .ensures)) (omega arith) (c .before .before .before .before .before .before .before .before .before .before .vector2 .ensures) in
+    wrote-as (ap (λ (a : ℕ). ascii " K" ++ spaced (part a (count t) t)) (at-acks-at .acks-at .ensures)) (omega arith) (at-vector2 .vector2 .ensures) in
     wrote-as (line-is t (s .args .p)) (omega arith)
-    (wrote-then (omega arith) (c .before .before .before .before .before .before .before .before .before .before .before .before .before .before .before .before .before .before .before .before .before .before .number .ensures) (wrote-then (omega (arith, s .pre, k₁, w₁)) summary (wrote-then (omega (arith, s .pre, k₁, w₁, k₂, w₂)) acks (wrote-then (omega (arith, s .pre, k₁, w₁, k₂, w₂, k₃, w₃)) (c .before .before .before .before .before .before .held-part .ensures) (c .before .before .put .ensures)))))
+    (wrote-then (omega arith) (at-number .number .ensures)
+    (wrote-then (omega (arith, s .pre, k₁, w₁)) summary
+    (wrote-then (omega (arith, s .pre, k₁, w₁, k₂, w₂)) acks
+    (wrote-then (omega (arith, s .pre, k₁, w₁, k₂, w₂, k₃, w₃)) (at-held-part .held-part .ensures) (at-put .put .ensures)))))
 
 pub node-line-spec : {M : Type 1} → statement M
 node-line-spec =

@@ -5,8 +5,9 @@ use native.Mathlib.Omega.{arith}
 use lib.ListN.{length}
 use denote.Ref.{now}
 use Rattle.meaning.specs.Journals.{nodeLines}
-use Rattle.text.specs.Text.{Wrote}
-use Rattle.text.proofs.Writing.{wrote-none, wrote-as, wrote-then, lines-none, lines-more}
+use Rattle.printing.specs.Wrote.{Wrote}
+use Rattle.printing.proofs.Writing.{wrote-none, wrote-as, wrote-then}
+use Rattle.text.proofs.Lines.{lines-none, lines-more}
 use Rattle.text.proofs.node_lines.Statement.{statement}
 use Rattle.text.proofs.node_lines.Tie as tie
 
@@ -32,9 +33,15 @@ loop-less c = omega arith
 
 loop-again : tie.Need-loop-again Inv-loop μ-loop
 loop-again c =
-    let s = c .before .before .before .before .before .before .before .before in
-    let l = c .before .before .before .before .before .loop in
-    (omega arith, omega arith, wrote-as (lines-more (l .p) (now (s .args .t))) (omega arith) (wrote-then (omega arith) (l .inv .2) (c .before .before .node-line .ensures)))
+    let at-node-line = c .before .before in
+    let at-loop = at-node-line .before .before .before in
+    let s = at-loop .before .before .before in
+    let l = at-loop .loop in (
+      omega arith,
+      omega arith,
+      wrote-as (lines-more (l .p) (now (s .args .t))) (omega arith) (wrote-then (omega arith) (l .inv .2)
+          (at-node-line .node-line .ensures)),
+    )
 
 same-length : tie.Need-same-length Inv-loop μ-loop
 same-length c = omega arith

@@ -1,7 +1,8 @@
 -- `show` goes by the buffer's length and the outcome's cases.
 use native.Mathlib.Omega.{arith}
 use denote.Ref.{now}
-use Rattle.text.proofs.Writing.{wrote-as, wrote-none, text-short, text-bad, whole}
+use Rattle.printing.proofs.Writing.{wrote-as, wrote-none}
+use Rattle.text.proofs.Lines.{text-short, text-bad, whole}
 use borrow.Author.Needs.{needs}
 use Rattle.text.proofs.show.Statement.{statement}
 use Rattle.text.proofs.show.Tie as tie
@@ -9,7 +10,9 @@ use Rattle.text.proofs.show.Tie as tie
 returns : tie.Need-returns
 returns c =
     let s = c .before .before .before in
-    whole {most = 0} (omega arith) (omega arith) (wrote-as (text-short (now (s .args .out)) (s .args .outcome) (now (s .args .t)) (c .if1 .taken)) (omega arith) (wrote-none (now (s .args .out)) 0 0))
+    let out = now (s .args .out) in
+    let w = wrote-as {most′ = 0} (text-short out (s .args .outcome) (now (s .args .t)) (c .if1 .taken)) (omega arith) (wrote-none out 0 0) in
+    whole {most = 0} (omega arith) (omega arith) w
 
 enum-known-outcome : tie.Need-enum-known-outcome
 enum-known-outcome c = search needs
@@ -28,18 +31,22 @@ same-length c = search needs
 
 returns-2 : tie.Need-returns-2
 returns-2 c =
-    let s = c .before .before .before .before .before .before .before .before .before .before in
-    let e = c .before .before .before .before .before .outcome .given .1 in
-    rw e (whole {most = 12288} (c .before .before .before .before .before .before .before .if1 .left) (omega arith) (wrote-as (text-bad (now (s .args .out)) _ _ (now (s .args .t)) (c .before .before .before .before .before .before .before .if1 .left)) (omega arith) (c .before .before .bad-line .ensures)))
+    let at-bad = c .before .before in
+    let at-outcome = at-bad .before .before .before in
+    let at-if1 = at-outcome .before .before in
+    let s = at-if1 .before .before .before in
+    let bad = text-bad (now (s .args .out)) _ _ (now (s .args .t)) (at-if1 .if1 .left) in
+    rw (at-outcome .outcome .given .1) (whole {most = 12288} (at-if1 .if1 .left) (omega arith) (wrote-as bad (omega arith) (at-bad .bad-line .ensures)))
 
 same-length-2 : tie.Need-same-length-2
 same-length-2 c = search needs
 
 returns-3 : tie.Need-returns-3
 returns-3 c =
-    let s = c .before .before .before .before .before .before .before .before .before .before in
-    let e = c .before .before .before .before .before .outcome2 .given .1 in
-    rw e (whole (c .before .before .before .before .before .before .before .if1 .left) (omega arith) (c .before .before .done-text .ensures))
+    let at-done = c .before .before in
+    let at-outcome = at-done .before .before .before in
+    let at-if1 = at-outcome .before .before in
+    rw (at-outcome .outcome2 .given .1) (whole (at-if1 .if1 .left) (omega arith) (at-done .done-text .ensures))
 
 pub show-spec : {M : Type 1} → statement M
 show-spec =

@@ -7,7 +7,8 @@ use lib.ListN.{getD, take, drop}
 use denote.Ref.{now}
 use Rattle.meaning.specs.Table.{count, part}
 use Rattle.meaning.specs.Journals.{spaced}
-use Rattle.text.proofs.Writing.{wrote-as, between, length-between, count-is}
+use Rattle.printing.proofs.Writing.{wrote-as}
+use Rattle.text.proofs.Lines.{between, length-between, count-is}
 use borrow.Author.Needs.{needs}
 use Rattle.text.proofs.vector.Statement.{statement}
 use Rattle.text.proofs.vector.Tie as tie
@@ -45,12 +46,14 @@ same-length c = search needs
 
 returns : tie.Need-returns
 returns c =
-    let s = c .before .before .before .before .before .before .before .before .before in
-    let n = count-is (now (s .args .t)) in
-    let l = length-between (s .args .from) (getD (now (s .args .t)) 0 0) (now (s .args .t)) (omega arith) in
-    let e : take (s .args .from + getD (now (s .args .t)) 0 0 - s .args .from) (drop (s .args .from) (now (s .args .t))) ≡ part (s .args .from) (count (now (s .args .t))) (now (s .args .t)) =
-    rw n (between (s .args .from) (getD (now (s .args .t)) 0 0) (now (s .args .t))) in
-    wrote-as (ap (λ (l : List ℕ). now (s .args .w) ++ spaced l) e) (omega arith) (c .before .before .said-row .ensures)
+    let at-said-row = c .before .before in
+    let s = at-said-row .before .before .before .before .before .before .before in
+    let t = now (s .args .t) in
+    let from = s .args .from in
+    let n = count-is t in
+    let l = length-between from (getD t 0 0) t (omega arith) in
+    let e : take (from + getD t 0 0 - from) (drop from t) ≡ part from (count t) t = rw n (between from (getD t 0 0) t) in
+    wrote-as (ap (λ (l : List ℕ). now (s .args .w) ++ spaced l) e) (omega arith) (at-said-row .said-row .ensures)
 
 pub vector-spec : {M : Type 1} → statement M
 vector-spec =

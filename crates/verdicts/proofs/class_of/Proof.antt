@@ -11,16 +11,24 @@ returns-2 : tie.Need-returns-2
 returns-2 c = class-2 (c .before .before .args .v) (omega arith) (omega arith)
 
 returns-3 : tie.Need-returns-3
-returns-3 c = class-3 (c .before .before .before .args .v) (omega arith) (omega arith)
+returns-3 c =
+    let start = c .before .before .before in
+    class-3 (start .args .v) (omega arith) (omega arith)
 
 returns-4 : tie.Need-returns-4
-returns-4 c = class-4 (c .before .before .before .before .args .v) (omega arith) (omega arith)
+returns-4 c =
+    let start = c .before .before .before .before in
+    class-4 (start .args .v) (omega arith) (omega arith)
 
 returns-5 : tie.Need-returns-5
-returns-5 c = class-5 (c .before .before .before .before .before .args .v) (omega arith) (omega arith)
+returns-5 c =
+    let start = c .before .before .before .before .before in
+    class-5 (start .args .v) (omega arith) (omega arith)
 
 returns-6 : tie.Need-returns-6
-returns-6 c = class-6 (c .before .before .before .before .before .args .v) (omega arith)
+returns-6 c =
+    let start = c .before .before .before .before .before in
+    class-6 (start .args .v) (omega arith)
 
 pub class-of-spec : {M : Type 1} → statement M
 class-of-spec = tie.close (tie.spec returns returns-2 returns-3 returns-4 returns-5 returns-6)

@@ -37,7 +37,12 @@ count-records-requires : tie.Need-count-records-requires
 count-records-requires c κs = search needs
 
 returns : tie.Need-returns
-returns c = node-counted _ _ _ (c .before .before .log-at .result + 4 * c .before .before .before .held-of .result - c .before .before .log-at .result) _ _ (c .before .before .before .before .before .pre .1 .0) (c .before .before .before .before .before .pre .1 .1) (c .before .before .before .held-of .ensures) (c .before .before .log-at .ensures) (c .count-records .ensures) (omega arith)
+returns c =
+    let at-log-at = c .before .before in
+    let at-held-of = at-log-at .before in
+    let start = at-held-of .before .before in
+    node-counted _ _ _ (at-log-at .log-at .result + 4 * at-held-of .held-of .result - at-log-at .log-at .result) _ _ (start .pre .1 .0)
+    (start .pre .1 .1) (at-held-of .held-of .ensures) (at-log-at .log-at .ensures) (c .count-records .ensures) (omega arith)
 
 pub count-log-spec : {M : Type 1} → statement M
 count-log-spec =

@@ -24,15 +24,24 @@ cast-if2 : tie.Need-cast-if2
 cast-if2 c = search needs
 
 returns-2 : tie.Need-returns-2
-returns-2 c = node-absent _ _ _ (sym (c .before .before .before .is-sound .ensures) ∙ not-false (c .before .before .before .is-sound .result) (c .before .before .if1 .left)) (c .before .count-of .ensures) (c .if2 .taken)
+returns-2 c =
+    let at-count-of = c .before in
+    let at-if1 = at-count-of .before in
+    let at-is-sound = at-if1 .before in
+    node-absent _ _ _ (sym (at-is-sound .is-sound .ensures) ∙ not-false (at-is-sound .is-sound .result) (at-if1 .if1 .left))
+    (at-count-of .count-of .ensures) (c .if2 .taken)
 
 count-log-requires : tie.Need-count-log-requires
 count-log-requires c κs =
-    let t = c .before .before .before .before .before .args .t .now in
-    let good : sound t ≡ true = sym (c .before .before .before .is-sound .ensures) ∙ not-false (c .before .before .before .is-sound .result) (c .before .before .if1 .left) in
+    let at-count-of = c .before in
+    let at-if1 = at-count-of .before in
+    let at-is-sound = at-if1 .before in
+    let start = at-is-sound .before .before in
+    let t = start .args .t .now in
+    let good : sound t ≡ true = sym (at-is-sound .is-sound .ensures) ∙ not-false (at-is-sound .is-sound .result) (at-if1 .if1 .left) in
     let s = sound-facts t good in
-    let present : c .before .before .before .before .before .args .node < count t = omega (arith, c .before .count-of .ensures, c .if2 .left) in
-    ((s .long, omega (arith, s .high), s .room (c .before .before .before .before .before .args .node) present), (good, present))
+    let present : start .args .node < count t = omega (arith, at-count-of .count-of .ensures, c .if2 .left) in
+    ((s .long, omega (arith, s .high), s .room (start .args .node) present), (good, present))
 
 returns-3 : tie.Need-returns-3
 returns-3 c = search needs

@@ -9,7 +9,8 @@ use Rattle.verdicts.proofs.count_records.Statement.{statement}
 use Rattle.verdicts.proofs.count_records.Tie as tie
 
 abbrev Inv-loop : tie.InvT-loop
-Inv-loop words scrubbed₀ touched₀ seen₀ at₀ scrubbed touched seen at = (at % 4 ≡ 0) × (at ≤ length words) × Tallied words (length words / 4) (at / 4) scrubbed touched seen
+Inv-loop words scrubbed₀ touched₀ seen₀ at₀ scrubbed touched seen at =
+    (at % 4 ≡ 0) × (at ≤ length words) × Tallied words (length words / 4) (at / 4) scrubbed touched seen
 
 abbrev μ-loop : tie.MeasureT-loop
 μ-loop words scrubbed₀ touched₀ seen₀ at₀ scrubbed touched seen at = at
@@ -33,19 +34,32 @@ is-scrubbed-requires : tie.Need-is-scrubbed-requires Inv-loop μ-loop
 is-scrubbed-requires c κs = search needs
 
 with-requires : tie.Need-with-requires Inv-loop μ-loop
-with-requires c κs = omega (arith, c .before .before .before .loop .inv .2 .scrub-few)
+with-requires c κs =
+    let at-loop = c .before .before .before in
+    omega (arith, at-loop .loop .inv .2 .scrub-few)
 
 is-touched-requires : tie.Need-is-touched-requires Inv-loop μ-loop
 is-touched-requires c κs = search needs
 
 with-requires-2 : tie.Need-with-requires-2 Inv-loop μ-loop
-with-requires-2 c κs = omega (arith, c .before .before .before .before .before .loop .inv .2 .touch-few)
+with-requires-2 c κs =
+    let at-loop = c .before .before .before .before .before in
+    omega (arith, at-loop .loop .inv .2 .touch-few)
 
 loop-less : tie.Need-loop-less Inv-loop μ-loop
 loop-less c = omega arith
 
 loop-again : tie.Need-loop-again Inv-loop μ-loop
-loop-again c = (omega arith, omega arith, tallied-more _ _ _ _ _ _ _ _ _ _ _ _ _ _ (omega arith) (omega arith) refl refl (c .before .before .before .is-scrubbed .ensures) (c .before .is-touched .ensures) (c .before .before .with .ensures) (c .with2 .ensures) (c .before .before .before .before .before .before .loop .inv .2))
+loop-again c =
+    let at-is-touched = c .before in
+    let at-with = at-is-touched .before in
+    let at-is-scrubbed = at-with .before in
+    let at-loop = at-is-scrubbed .before .before .before in (
+      omega arith,
+      omega arith,
+      tallied-more _ _ _ _ _ _ _ _ _ _ _ _ _ _ (omega arith) (omega arith) refl refl (at-is-scrubbed .is-scrubbed .ensures)
+          (at-is-touched .is-touched .ensures) (at-with .with .ensures) (c .with2 .ensures) (at-loop .loop .inv .2),
+    )
 
 returns : tie.Need-returns Inv-loop μ-loop
 returns c = count-wide _ _ (omega arith) (omega arith) _ _ _ (tallied-all _ _ _ _ _ _ (omega arith) (c .before .before .loop .inv .2)) (omega arith)

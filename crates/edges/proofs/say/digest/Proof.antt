@@ -1,11 +1,9 @@
+-- `digest` passes each word once.
 use borrow.Author.Needs.{needs}
 use Prim.Native.Nat.{_-_}
 use lib.ListN.{length}
 use Rattle.edges.proofs.say.digest.Statement.{statement}
 use Rattle.edges.proofs.say.digest.Tie as tie
-use Rattle.edges.proofs.say.digest.Reads as reads
-use Rattle.edges.proofs.say.digest.Lts as lts
-use Rattle.edges.proofs.say.word.Reads as word-reads
 
 abbrev Inv-loop : tie.InvT-loop
 Inv-loop t sum₀ i₀ sum i = Unit

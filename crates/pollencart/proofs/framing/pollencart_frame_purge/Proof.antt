@@ -1,8 +1,8 @@
 -- `pollencart_frame_purge` meets its contract: what the writer answers and leaves, handed on.
-use Rattle.meaning.specs.declared.Action.the-variants.{Purge}
-use Rattle.meaning.specs.Frames.{frameReply, frameAfter}
+use mathlib.Core.Path.{ap, _∙_}
+use Rattle.meaning.specs.Frames.{framedValues}
 use Rattle.meaning.proofs.FrameLaws.{value-length}
-use Rattle.pollencart.proofs.ValueLaws.{short, reported}
+use Rattle.answers.proofs.ValueLaws.{short}
 use borrow.Author.Needs.{needs}
 use Rattle.pollencart.proofs.framing.pollencart_frame_purge.Statement.{statement}
 use Rattle.pollencart.proofs.framing.pollencart_frame_purge.Tie as tie
@@ -19,10 +19,7 @@ same-length c = search needs
 returns : tie.Need-returns
 returns c =
     let at-purge = c .before .before .before .before in
-    let start = at-purge .before .before .before in
-    let x = Purge (start .args .node) in
-    reported (at-purge .purge .result) (frameReply (start .args .out .now) x) (at-purge .purge .last .0)
-    (frameAfter (start .args .out .now) x) (c .report .result) (c .report .last .1 .0) (at-purge .purge .ensures) (c .report .ensures)
+    (c .report .ensures ∙ ap framedValues (at-purge .purge .ensures .0), at-purge .purge .ensures .1)
 
 pub pollencart-frame-purge-spec : {M : Type 1} → statement M
 pollencart-frame-purge-spec =

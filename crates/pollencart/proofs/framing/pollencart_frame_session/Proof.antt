@@ -1,8 +1,8 @@
 -- `pollencart_frame_session` meets its contract: what the writer answers and leaves, handed on.
-use Rattle.meaning.specs.declared.Action.the-variants.{Session}
-use Rattle.meaning.specs.Frames.{frameReply, frameAfter}
+use mathlib.Core.Path.{ap, _∙_}
+use Rattle.meaning.specs.Frames.{framedValues}
 use Rattle.meaning.proofs.FrameLaws.{value-length}
-use Rattle.pollencart.proofs.ValueLaws.{short, reported}
+use Rattle.answers.proofs.ValueLaws.{short}
 use borrow.Author.Needs.{needs}
 use Rattle.pollencart.proofs.framing.pollencart_frame_session.Statement.{statement}
 use Rattle.pollencart.proofs.framing.pollencart_frame_session.Tie as tie
@@ -19,10 +19,7 @@ same-length c = search needs
 returns : tie.Need-returns
 returns c =
     let at-session = c .before .before .before .before in
-    let start = at-session .before .before .before in
-    let x = Session (start .args .a) (start .args .b) (start .args .ca) (start .args .cb) (start .args .outcome) in
-    reported (at-session .session .result) (frameReply (start .args .out .now) x) (at-session .session .last .0)
-    (frameAfter (start .args .out .now) x) (c .report .result) (c .report .last .1 .0) (at-session .session .ensures) (c .report .ensures)
+    (c .report .ensures ∙ ap framedValues (at-session .session .ensures .0), at-session .session .ensures .1)
 
 pub pollencart-frame-session-spec : {M : Type 1} → statement M
 pollencart-frame-session-spec =

@@ -1,7 +1,8 @@
 -- `pollencart_frame_start` meets its contract: what the writer answers and leaves, handed on.
-use Rattle.meaning.specs.Frames.{startReply, startAfter}
+use mathlib.Core.Path.{ap, _∙_}
+use Rattle.meaning.specs.Frames.{framedValues}
 use Rattle.meaning.proofs.FrameLaws.{value-start}
-use Rattle.pollencart.proofs.ValueLaws.{short, reported}
+use Rattle.answers.proofs.ValueLaws.{short}
 use borrow.Author.Needs.{needs}
 use Rattle.pollencart.proofs.framing.pollencart_frame_start.Statement.{statement}
 use Rattle.pollencart.proofs.framing.pollencart_frame_start.Tie as tie
@@ -18,10 +19,7 @@ same-length c = search needs
 returns : tie.Need-returns
 returns c =
     let at-write-start = c .before .before .before .before in
-    let start = at-write-start .before .before .before in
-    reported (at-write-start .write-start .result) (startReply (start .args .out .now) (start .args .n)) (at-write-start .write-start .last .0)
-    (startAfter (start .args .out .now) (start .args .n)) (c .report .result) (c .report .last .1 .0) (at-write-start .write-start .ensures)
-    (c .report .ensures)
+    (c .report .ensures ∙ ap framedValues (at-write-start .write-start .ensures .0), at-write-start .write-start .ensures .1)
 
 pub pollencart-frame-start-spec : {M : Type 1} → statement M
 pollencart-frame-start-spec =

@@ -1,8 +1,8 @@
 -- `pollencart_frame_write` meets its contract: what the writer answers and leaves, handed on.
-use Rattle.meaning.specs.declared.Action.the-variants.{Write}
-use Rattle.meaning.specs.Frames.{frameReply, frameAfter}
+use mathlib.Core.Path.{ap, _∙_}
+use Rattle.meaning.specs.Frames.{framedValues}
 use Rattle.meaning.proofs.FrameLaws.{value-length}
-use Rattle.pollencart.proofs.ValueLaws.{short, reported}
+use Rattle.answers.proofs.ValueLaws.{short}
 use borrow.Author.Needs.{needs}
 use Rattle.pollencart.proofs.framing.pollencart_frame_write.Statement.{statement}
 use Rattle.pollencart.proofs.framing.pollencart_frame_write.Tie as tie
@@ -19,10 +19,7 @@ same-length c = search needs
 returns : tie.Need-returns
 returns c =
     let at-write = c .before .before .before .before in
-    let start = at-write .before .before .before in
-    let x = Write (start .args .node) (start .args .timestamp) (start .args .block) (start .args .verdict) in
-    reported (at-write .write .result) (frameReply (start .args .out .now) x) (at-write .write .last .0)
-    (frameAfter (start .args .out .now) x) (c .report .result) (c .report .last .1 .0) (at-write .write .ensures) (c .report .ensures)
+    (c .report .ensures ∙ ap framedValues (at-write .write .ensures .0), at-write .write .ensures .1)
 
 pub pollencart-frame-write-spec : {M : Type 1} → statement M
 pollencart-frame-write-spec =

@@ -1,5 +1,6 @@
 -- `pollencart_purge` meets its contract: the reply's values, and the words that the step leaves.
-use Rattle.pollencart.proofs.ValueLaws.{reply-value}
+use mathlib.Core.Path.{refl}
+use Rattle.answers.proofs.ValueLaws.{told}
 use borrow.Author.Needs.{needs}
 use Rattle.pollencart.proofs.tables.pollencart_purge.Statement.{statement}
 use Rattle.pollencart.proofs.tables.pollencart_purge.Tie as tie
@@ -17,7 +18,9 @@ same-length : tie.Need-same-length
 same-length c = search needs
 
 returns : tie.Need-returns
-returns c = (reply-value _ _ 0 _ (c .before .before .before .before .purge .ensures .0) (c .number-of .ensures), reply-value _ _ 1 _ (c .before .before .before .before .purge .ensures .0) (c .before .first-of .ensures), c .before .before .before .before .purge .ensures .1)
+returns c =
+    let at-purge = c .before .before .before .before in
+    (told 2 _ _ (at-purge .purge .ensures .0) _ _ _ (c .number-of .ensures) (c .before .first-of .ensures) refl, at-purge .purge .ensures .1)
 
 pub pollencart-purge-spec : {M : Type 1} → statement M
 pollencart-purge-spec = tie.close (tie.spec purge-requires first-of-requires number-of-requires same-length returns)

@@ -1,5 +1,5 @@
 -- `pollencart_session` meets its contract: the reply's values, and the words that the step leaves.
-use Rattle.pollencart.proofs.ValueLaws.{reply-value}
+use Rattle.answers.proofs.ValueLaws.{told}
 use borrow.Author.Needs.{needs}
 use Rattle.pollencart.proofs.tables.pollencart_session.Statement.{statement}
 use Rattle.pollencart.proofs.tables.pollencart_session.Tie as tie
@@ -20,7 +20,12 @@ same-length : tie.Need-same-length
 same-length c = search needs
 
 returns : tie.Need-returns
-returns c = (reply-value _ _ 0 _ (c .before .before .before .before .before .session .ensures .0) (c .number-of .ensures), reply-value _ _ 1 _ (c .before .before .before .before .before .session .ensures .0) (c .before .before .first-of .ensures), reply-value _ _ 2 _ (c .before .before .before .before .before .session .ensures .0) (c .before .second-of .ensures), c .before .before .before .before .before .session .ensures .1)
+returns c =
+    let at-second = c .before in
+    let at-session = at-second .before .before .before .before in (
+      told 3 _ _ (at-session .session .ensures .0) _ _ _ (c .number-of .ensures) (at-second .before .first-of .ensures) (at-second .second-of .ensures),
+      at-session .session .ensures .1,
+    )
 
 pub pollencart-session-spec : {M : Type 1} → statement M
 pollencart-session-spec = tie.close (tie.spec session-requires first-of-requires second-of-requires number-of-requires same-length returns)

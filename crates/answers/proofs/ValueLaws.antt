@@ -1,0 +1,35 @@
+-- Laws of the values that C is told of a writer's answer and of a step's reply.
+use mathlib.Core.Path.{_≡_, refl, sym, _∙_, ap, ap₂}
+use mathlib.Core.List.{List, [], _∷_, _++_}
+use Prim.Native.Nat.{ℕ, _≤_}
+use lib.ListN.{getD, take}
+use Rattle.meaning.specs.declared.Reply.{Reply}
+use Rattle.meaning.specs.declared.Reply.the-variants.{Written, Carried, Purged, Refused}
+use Rattle.meaning.specs.declared.Framed.{Framed}
+use Rattle.meaning.specs.declared.Framed.the-variants.{Length}
+use Rattle.meaning.specs.Frames.{framedValues}
+use Rattle.meaning.specs.Steps.{replyValues}
+
+-- a writer's answer, handed on as a number and a length
+pub short : (a b : Framed) → a ≡ b → getD (framedValues b) 1 0 ≤ 27 → getD (framedValues a) 1 0 ≤ 27
+short a b e p = rw e p
+
+-- the length of an answer that is one
+pub length-case : (a : Framed) (k : ℕ) → a ≡ Length k → getD (framedValues a) 1 0 ≤ 27 → k ≤ 27
+length-case a k e p = rw e at p
+
+-- a reply's values are three, and read one by one
+pub each : (x : Reply) → (getD (replyValues x) 0 0 ∷ getD (replyValues x) 1 0 ∷ getD (replyValues x) 2 0 ∷ []) ≡ replyValues x
+each Written = refl
+each (Carried a b) = refl
+each (Purged k) = refl
+each (Refused k) = refl
+
+-- the first k of the values of a reply that is another
+pub told : (k : ℕ) (x y : Reply) → x ≡ y → (a b c : ℕ) → a ≡ getD (replyValues x) 0 0 → b ≡ getD (replyValues x) 1 0 → c ≡ getD (replyValues x) 2 0 →
+    take k (a ∷ b ∷ c ∷ []) ≡ take k (replyValues y)
+told k x y e a b c p q r = rw (p, q, r, e) (ap (take k) (each y))
+
+-- two lists told and two contents of what was lent, each pair the same
+pub both : {xs ys m us vs n : List ℕ} → xs ≡ m → ys ≡ m → us ≡ n → vs ≡ n → (xs ++ us) ≡ (ys ++ vs)
+both p q r s = ap₂ _++_ (p ∙ sym q) (r ∙ sym s)

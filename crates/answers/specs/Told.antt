@@ -1,0 +1,20 @@
+-- What C is told: a reply's values as far as the call has words for them, and what it finds in the words or bytes that it lent.
+use mathlib.Core.Path.{_≡_}
+use mathlib.Core.List.{List}
+use Prim.Native.Nat.{ℕ}
+use lib.ListN.{length, take}
+use Rattle.meaning.specs.declared.Action.{Action}
+use Rattle.meaning.specs.Steps.{reply, after, replyValues}
+use Rattle.meaning.specs.Frames.{framedValues, frameReply, frameAfter, startReply, startAfter}
+
+-- of a step: the number, then the counts; and the table at exit
+abbrev pub Stepped : List ℕ → Action → List ℕ → List ℕ → Type 0
+Stepped t x told u = (told ≡ take (length told) (replyValues (reply t x))) × (u ≡ after t x)
+
+-- of a step's frame: the number and the length; and the bytes at exit
+abbrev pub Framed : List ℕ → Action → List ℕ → List ℕ → Type 0
+Framed out x told bytes = (told ≡ framedValues (frameReply out x)) × (bytes ≡ frameAfter out x)
+
+-- of a start's frame, likewise
+abbrev pub Started : List ℕ → ℕ → List ℕ → List ℕ → Type 0
+Started out n told bytes = (told ≡ framedValues (startReply out n)) × (bytes ≡ startAfter out n)

@@ -1,0 +1,85 @@
+// Answers taken apart for C: a reply's numbers, a count's, a writer's.
+ghost use mathlib.Core.Path.{_≡_};
+ghost use mathlib.Core.List.{[], _∷_};
+ghost use Prim.Native.Nat.{_≤_};
+ghost use lib.ListN.{getD};
+ghost use Rattle.meaning.specs.Steps.{replyValues};
+ghost use Rattle.meaning.specs.Verdicts.{countValues};
+ghost use Rattle.meaning.specs.Frames.{framedValues};
+use meaning::Count;
+use meaning::Framed;
+use meaning::Reply;
+
+// A reply's refusal number, 0 for none.
+pub fn number_of(answer: Reply) -> u32
+    ensures { λ r. ⌜ r ≡ getD (replyValues answer) 0 0 ⌝ }
+{
+    match answer {
+        Reply::Written => 0,
+        Reply::Carried { .. } => 0,
+        Reply::Purged { .. } => 0,
+        Reply::Refused { number } => number,
+    }
+}
+
+// A reply's first count: what a session carried to a, or what a purge removed.
+pub fn first_of(answer: Reply) -> u32
+    ensures { λ r. ⌜ r ≡ getD (replyValues answer) 1 0 ⌝ }
+{
+    match answer {
+        Reply::Written => 0,
+        Reply::Carried { a, .. } => a,
+        Reply::Purged { removed } => removed,
+        Reply::Refused { .. } => 0,
+    }
+}
+
+// A reply's second count: what a session carried to b.
+pub fn second_of(answer: Reply) -> u32
+    ensures { λ r. ⌜ r ≡ getD (replyValues answer) 2 0 ⌝ }
+{
+    match answer {
+        Reply::Written => 0,
+        Reply::Carried { b, .. } => b,
+        Reply::Purged { .. } => 0,
+        Reply::Refused { .. } => 0,
+    }
+}
+
+// Takes a count's answer apart: its number, and its two counts into the words lent.
+pub fn store(answer: Count, scrubbed: &mut u32, touched: &mut u32) -> u32
+    ensures { λ r. ⌜ (r ∷ now (scrubbed .exit) ∷ now (touched .exit) ∷ []) ≡ countValues answer ⌝ }
+{
+    match answer {
+        Count::Counted {
+            scrubbed: s,
+            touched: t,
+        } => {
+            *scrubbed = s;
+            *touched = t;
+            0
+        }
+        Count::Refused { number } => {
+            *scrubbed = 0;
+            *touched = 0;
+            number
+        }
+    }
+}
+
+// The writer's answer for C: the refusal number, 0 for none, and the length through the reference, 0 if refused.
+pub fn report(answer: Framed, length: &mut u32) -> u32
+    requires { ⌜ getD (framedValues answer) 1 0 ≤ 27 ⌝ }
+    ensures { λ r. ⌜ (r ∷ now (length .exit) ∷ []) ≡ framedValues answer ⌝ }
+{
+    match answer {
+        Framed::Length { bytes } => {
+            *length = bytes as u32;
+            0
+        }
+        Framed::Refused { number: refused } => {
+            *length = 0;
+            refused
+        }
+    }
+}

@@ -1,0 +1,234 @@
+-- Laws of a line's digits: a character's number, the byte of two, the pass over a line, and a field at a byte's place.
+use mathlib.Core.Path.{_≡_, refl, sym, _∙_, ap}
+use mathlib.Core.Bool.{Bool, true, false, _&&_, cond, true≢false}
+use mathlib.Core.List.{List, [], _∷_, _++_}
+use Prim.Native.Nat.{ℕ, zero, suc, _+_, _-_, _*_, _/_, _%_, _≤_, _<_}
+use native.Mathlib.Omega.{arith}
+use native.Mathlib.Numerals.{add-one}
+use lib.Bits.{bitOr, or-lt, or-add-and, and-le-l, and-le-r}
+use lib.ListN.{length, getD, take, drop, length-drop}
+use lib.Seq.{take-suc, take-all, getD-drop}
+use lib.Dec.{leb, ltb, eqb}
+use borrow.Author.Tests.{ltb-true, lt-ltb, leb-true, leb-false, le-leb, eqb-true, eq-eqb, ne-eqb}
+use borrow.Author.Count.{below-more}
+use Rattle.meaning.specs.Frames.{digitValue, bytesOf, allDigits, total, number}
+use Rattle.meaning.proofs.RowLaws.{and-left, and-right}
+use Rattle.meaning.proofs.FrameLaws.{digit-none, length-bytesOf, byte-at, digits-at, digits-all, total-append, number-snoc}
+use Rattle.digits.specs.Digits.{letterValue, byteOf, weigh, addsUp, fieldAt}
+
+abbrev Digit : List ℕ → ℕ → Type 0
+Digit l i = digitValue (getD l i 0) < 16
+
+-- a letter's number, and a digit's that is no decimal one
+pub letter-some : (c : ℕ) → 65 ≤ c → c ≤ 70 → c - 55 ≡ letterValue c
+unfolding letterValue
+letter-some c p q = cc (le-leb 65 c p, le-leb c 70 q)
+
+pub letter-none : (c : ℕ) → (65 ≤ c → c ≤ 70 → ⊥) → 16 ≡ letterValue c
+unfolding letterValue
+letter-none c p = go (leb 65 c) (leb c 70) refl refl
+  where
+    go : (a b : Bool) → leb 65 c ≡ a → leb c 70 ≡ b → 16 ≡ cond (a && b) (c - 55) 16
+    go true true x y = absurd (p (leb-true 65 c x) (leb-true c 70 y))
+    go true false x y = refl
+    go false b x y = refl
+
+pub digit-other : (c : ℕ) → (48 ≤ c → c ≤ 57 → ⊥) → letterValue c ≡ digitValue c
+unfolding letterValue digitValue
+digit-other c p = go (leb 48 c) (leb c 57) refl refl
+  where
+    other : ℕ
+    other = cond (leb 65 c && leb c 70) (c - 55) 16
+
+    go : (a b : Bool) → leb 48 c ≡ a → leb c 57 ≡ b → other ≡ cond (a && b) (c - 48) other
+    go true true x y = absurd (p (leb-true 48 c x) (leb-true c 57 y))
+    go true false x y = refl
+    go false b x y = refl
+
+pub digit-letters : (c : ℕ) → digitValue c < 16 → (48 ≤ c → c ≤ 57 → ⊥) → (65 ≤ c) × (c ≤ 70)
+digit-letters c h p = go (leb 65 c) (leb c 70) refl refl
+  where
+    go : (a b : Bool) → leb 65 c ≡ a → leb c 70 ≡ b → (65 ≤ c) × (c ≤ 70)
+    go true true x y = (leb-true 65 c x, leb-true c 70 y)
+    go true false x y = absurd (omega (arith, digit-none c p (λ u v. omega (arith, leb-false c 70 y))))
+    go false b x y = absurd (omega (arith, digit-none c p (λ u v. omega (arith, leb-false 65 c x))))
+
+-- all are digits exactly if their numbers together have no bit from 16 on
+pub or-below : (a b : ℕ) → a < 16 → b < 16 → bitOr a b < 16
+or-below a b p q = or-lt 4 a b p q
+
+pub or-left : (a b : ℕ) → bitOr a b < 16 → a < 16
+or-left a b h = omega (arith, or-add-and a b, and-le-r a b)
+
+pub or-right : (a b : ℕ) → bitOr a b < 16 → b < 16
+or-right a b h = omega (arith, or-add-and a b, and-le-l a b)
+
+-- the byte of two characters
+pub two-none : (high low h l : ℕ) → h ≡ digitValue high → l ≡ digitValue low → 15 < bitOr h l → 256 ≡ byteOf high low
+unfolding byteOf
+two-none high low h l e f p = go (ltb (digitValue high) 16) (ltb (digitValue low) 16) refl refl
+  where
+    go : (a b : Bool) → ltb (digitValue high) 16 ≡ a → ltb (digitValue low) 16 ≡ b → 256 ≡ cond (a && b) (16 * digitValue high + digitValue low) 256
+    go true true x y =
+        let below = or-below h l (omega (arith, ltb-true (digitValue high) 16 x)) (omega (arith, ltb-true (digitValue low) 16 y)) in
+        absurd (omega arith)
+    go true false x y = refl
+    go false b x y = refl
+
+pub byte-digits : (high low : ℕ) → digitValue high < 16 → digitValue low < 16 → byteOf high low ≡ 16 * digitValue high + digitValue low
+unfolding byteOf
+byte-digits high low p q = cc (lt-ltb (digitValue high) 16 p, lt-ltb (digitValue low) 16 q)
+
+pub two-some : (high low h l : ℕ) → h ≡ digitValue high → l ≡ digitValue low → bitOr h l ≤ 15 → 16 * h + l ≡ byteOf high low
+two-some high low h l e f p =
+    let a : digitValue high < 16 = rw e at (or-left h l (omega arith)) in
+    let b : digitValue low < 16 = rw f at (or-right h l (omega arith)) in
+    omega (arith, byte-digits high low a b)
+
+pub byte-below : (high low : ℕ) → byteOf high low ≤ 255
+    → (digitValue high < 16) × (digitValue low < 16) × (byteOf high low ≡ 16 * digitValue high + digitValue low)
+unfolding byteOf
+byte-below high low h = go (ltb (digitValue high) 16) (ltb (digitValue low) 16) refl refl h
+  where
+    whole : ℕ
+    whole = 16 * digitValue high + digitValue low
+
+    go : (a b : Bool) → ltb (digitValue high) 16 ≡ a → ltb (digitValue low) 16 ≡ b → cond (a && b) whole 256 ≤ 255
+        → (digitValue high < 16) × (digitValue low < 16) × (cond (a && b) whole 256 ≡ whole)
+    go true true x y p = (ltb-true (digitValue high) 16 x, ltb-true (digitValue low) 16 y, refl)
+    go true false x y p = absurd (omega arith)
+    go false b x y p = absurd (omega arith)
+
+-- a digit's share of the sum
+pub weigh-even : (place v : ℕ) → place % 2 ≡ 0 → weigh place v ≡ 16 * v % 256
+unfolding weigh
+weigh-even place v p = cc (eq-eqb (place % 2) 0 p)
+
+pub weigh-odd : (place v : ℕ) → (place % 2 ≡ 0 → ⊥) → weigh place v ≡ v
+unfolding weigh
+weigh-odd place v p = cc (ne-eqb (place % 2) 0 p)
+
+-- the pass over a line, one character a turn
+module _ (l : List ℕ) where
+  -- what the bits seen tell of the characters before a place, and what the line's digits tell of them
+  abbrev pub Seen : ℕ → ℕ → Type 0
+  Seen seen n = (allDigits l ≡ true → seen < 16) × (seen < 16 → (i : ℕ) → i < n → Digit l i)
+
+  pub seen-none : Seen 0 0
+  seen-none = (λ d. omega arith, λ h i p. absurd (omega arith))
+
+  pub seen-more : (seen n d : ℕ) → n < length l → d ≡ digitValue (getD l n 0) → Seen seen n → Seen (bitOr seen d) (n + 1)
+  seen-more seen n d h e s = (
+    λ a. or-below seen d (s .0 a) (omega (arith, digits-at l n a h)),
+    λ p i q. below-more (Digit l) n (s .1 (or-left seen d p)) (omega (arith, or-right seen d p)) i q,
+  )
+
+  pub seen-all : (seen n : ℕ) → n ≡ length l → Seen seen n → seen ≤ 15 → allDigits l ≡ true
+  seen-all seen n e s h = digits-all l (λ i p. s .1 (omega arith) i (omega arith))
+
+  pub seen-stray : (seen n : ℕ) → Seen seen n → 15 < seen → allDigits l ≡ false
+  seen-stray seen n s h = go (allDigits l) refl
+    where
+      go : (b : Bool) → allDigits l ≡ b → b ≡ false
+      go true d = absurd (omega (arith, s .0 d))
+      go false d = refl
+
+  pub seen-tells : (seen n : ℕ) → n ≡ length l → Seen seen n → leb seen 15 ≡ allDigits l
+  seen-tells seen n e s = go (leb seen 15) refl
+    where
+      go : (b : Bool) → leb seen 15 ≡ b → b ≡ allDigits l
+      go true x = sym (seen-all seen n e s (leb-true seen 15 x))
+      go false x = sym (seen-stray seen n s (leb-false seen 15 x))
+
+  -- the sum of the whole bytes before a place, and after a byte's first digit 16 times that digit too
+  abbrev pub Sum : ℕ → ℕ → Type 0
+  Sum sum n =
+      ((j : ℕ) → n ≡ 2 * j → sum ≡ total (take j (bytesOf l)))
+      × ((j : ℕ) → n ≡ 2 * j + 1 → sum ≡ (total (take j (bytesOf l)) + 16 * digitValue (getD l (2 * j) 0)) % 256)
+
+  pub sum-none : Sum 0 0
+  unfolding total
+  sum-none = (even, λ j p. absurd (omega arith))
+    where
+      even : (j : ℕ) → 0 ≡ 2 * j → 0 ≡ total (take j (bytesOf l))
+      even zero p = refl
+      even (suc j) p = absurd (omega arith)
+
+  module _ (n v w sum : ℕ) (h : n < length l) (e : v ≡ digitValue (getD l n 0)) (f : w ≡ weigh n v) (s : Sum sum n) where
+    first-half : (j : ℕ) → n + 1 ≡ 2 * j + 1 → (sum + w) % 256 ≡ (total (take j (bytesOf l)) + 16 * digitValue (getD l (2 * j) 0)) % 256
+    first-half j p =
+        let here : n ≡ 2 * j = omega arith in
+        let share : w ≡ 16 * v % 256 = f ∙ weigh-even n v (omega arith) in
+        let digit : v ≡ digitValue (getD l (2 * j) 0) = rw here at e in
+        omega (arith, s .0 j here, share, digit)
+
+    second-half : (j : ℕ) → n + 1 ≡ 2 * j → (sum + w) % 256 ≡ total (take j (bytesOf l))
+    unfolding total
+    second-half zero p = absurd (omega arith)
+    second-half (suc j) p =
+        let here : n ≡ 2 * j + 1 = omega arith in
+        let share : w ≡ v = f ∙ weigh-odd n v (omega arith) in
+        let digit : v ≡ digitValue (getD l (2 * j + 1) 0) = rw here at e in
+        let byte = byte-at l j (omega (arith, length-bytesOf l)) in
+        let more : take (suc j) (bytesOf l) ≡ take j (bytesOf l) ++ (getD (bytesOf l) j 0 ∷ [])
+        = take-suc (bytesOf l) j 0 (omega (arith, length-bytesOf l)) in
+        rw more (omega (arith, total-append (take j (bytesOf l)) (getD (bytesOf l) j 0 ∷ []), s .1 j here, share, digit, byte))
+
+    pub sum-more : (next : ℕ) → next ≡ (sum + w) % 256 → Sum next (n + 1)
+    sum-more next q = (λ j p. q ∙ second-half j p, λ j p. q ∙ first-half j p)
+
+  pub sum-all : (n sum : ℕ) → n ≡ length l → length l % 2 ≡ 0 → Sum sum n → sum ≡ total (bytesOf l)
+  sum-all n sum e even s = s .0 (length l / 2) (omega arith) ∙ ap total (take-all (length l / 2) (bytesOf l) (omega (arith, length-bytesOf l)))
+
+  -- all are digits, and the sum is zero
+  pub adds-stray : allDigits l ≡ false → false ≡ addsUp l
+  unfolding addsUp
+  adds-stray p = cc
+
+  pub adds-sum : (sum : ℕ) → allDigits l ≡ true → sum ≡ total (bytesOf l) → eqb sum 0 ≡ addsUp l
+  unfolding addsUp
+  adds-sum sum p e = rw (p, e) refl
+
+  pub adds-both : addsUp l ≡ true → (allDigits l ≡ true) × (total (bytesOf l) ≡ 0)
+  unfolding addsUp
+  adds-both h = (
+    and-left (allDigits l) (eqb (total (bytesOf l)) 0) h,
+    eqb-true (total (bytesOf l)) 0 (and-right (allDigits l) (eqb (total (bytesOf l)) 0) h),
+  )
+
+  pub adds-right : allDigits l ≡ true → total (bytesOf l) ≡ 0 → addsUp l ≡ true
+  unfolding addsUp
+  adds-right p e = cc (eq-eqb (total (bytesOf l)) 0 e)
+
+  pub adds-not : addsUp l ≡ false → allDigits l ≡ true → total (bytesOf l) ≡ 0 → ⊥
+  adds-not h p e = true≢false (sym (adds-right p e) ∙ h)
+
+-- a field of one byte, and one of four
+pub first-byte : (bs : List ℕ) → number (take 1 bs) ≡ getD bs 0 0
+unfolding number
+first-byte [] = refl
+first-byte (b ∷ bs) = omega arith
+
+pub byte-field : (l : List ℕ) (k : ℕ) → 2 * (k + 1) ≤ length l → 16 * digitValue (getD l (2 * k) 0) + digitValue (getD l (2 * k + 1) 0) ≡ fieldAt l k 1
+unfolding fieldAt
+byte-field l k h =
+    let here : getD (drop k (bytesOf l)) 0 0 ≡ getD (bytesOf l) (k + 0) 0 = getD-drop k (bytesOf l) 0 0 in
+    let same : k + 0 ≡ k = omega arith in
+    sym (first-byte (drop k (bytesOf l)) ∙ here ∙ ap (λ (i : ℕ). getD (bytesOf l) i 0) same ∙ byte-at l k (omega (arith, length-bytesOf l)))
+
+field-more : (l : List ℕ) (at k : ℕ) → 2 * (at + (k + 1)) ≤ length l → 256 * fieldAt l at k + fieldAt l (at + k) 1 ≡ fieldAt l at (k + 1)
+unfolding fieldAt
+field-more l at k h =
+    let long = length-bytesOf l in
+    let byte = byte-field l (at + k) (omega arith) in
+    let byte′ = byte-at l (at + k) (omega arith) in
+    let here : getD (drop at (bytesOf l)) k 0 ≡ getD (bytesOf l) (at + k) 0 = getD-drop at (bytesOf l) k 0 in
+    let room : k < length (drop at (bytesOf l)) = omega (arith, length-drop at (bytesOf l)) in
+    let bs = drop at (bytesOf l) in
+    let more : take (k + 1) bs ≡ take k bs ++ (getD bs k 0 ∷ []) = rw add-one (take-suc bs k 0 room) in
+    rw more (omega (arith, number-snoc (take k bs) (getD bs k 0)))
+
+pub field-four : (l : List ℕ) (at : ℕ) → 2 * (at + 4) ≤ length l
+    → 65536 * (256 * fieldAt l at 1 + fieldAt l (at + 1) 1) + (256 * fieldAt l (at + 2) 1 + fieldAt l (at + 3) 1) ≡ fieldAt l at 4
+field-four l at h =
+    omega (arith, field-more l at 1 (omega arith), field-more l at 2 (omega arith), field-more l at 3 (omega arith))

@@ -1,0 +1,33 @@
+-- What the functions over a line's digits answer: a letter's number, the byte of two characters, a digit's share of the sum, a field by its place.
+use mathlib.Core.Path.{_≡_}
+use mathlib.Core.Bool.{Bool, true, _&&_, cond}
+use mathlib.Core.List.{List}
+use Prim.Native.Nat.{ℕ, _+_, _-_, _*_, _%_, _≤_}
+use lib.ListN.{length, take, drop}
+use lib.Dec.{leb, ltb, eqb}
+use Rattle.meaning.specs.Frames.{digitValue, bytesOf, allDigits, total, number}
+
+-- the number of a letter A to F, 16 for any other character
+unfoldable pub letterValue : ℕ → ℕ
+letterValue c = cond (leb 65 c && leb c 70) (c - 55) 16
+
+-- the byte of two characters, 256 where one is no digit
+unfoldable pub byteOf : ℕ → ℕ → ℕ
+byteOf high low = cond (ltb (digitValue high) 16 && ltb (digitValue low) 16) (16 * digitValue high + digitValue low) 256
+
+-- what a digit's number adds to the sum, by its place: the first of a byte's two counts 16 times
+unfoldable pub weigh : ℕ → ℕ → ℕ
+weigh place v = cond (eqb (place % 2) 0) (16 * v % 256) v
+
+-- all are digits, and the sum is zero
+unfoldable pub addsUp : List ℕ → Bool
+addsUp l = allDigits l && eqb (total (bytesOf l)) 0
+
+-- the number of this many bytes from a byte's place
+unfoldable pub fieldAt : List ℕ → ℕ → ℕ → ℕ
+fieldAt l at width = number (take width (drop at (bytesOf l)))
+
+-- a line of digits that has the bytes from a place
+pub record Within (l : List ℕ) (at width : ℕ) : Type 0 where
+  pub digits : allDigits l ≡ true
+  pub room : 2 * (at + width) ≤ length l

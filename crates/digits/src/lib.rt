@@ -1,0 +1,122 @@
+// A line's digits: their numbers, whether all are digits, their sum, and the bytes that they spell. Nothing here knows a kind.
+// Inner functions: what they require, `heads` and `reading` show.
+ghost use mathlib.Core.Path.{_≡_};
+ghost use Prim.Native.Nat.{_+_, _*_, _%_, _<_};
+ghost use lib.ListN.{length};
+ghost use Rattle.meaning.specs.Frames.{digitValue, allDigits};
+ghost use Rattle.digits.specs.Digits.{letterValue, byteOf, weigh, addsUp, fieldAt, Within};
+
+// The number of a letter A to F, 16 for any other character.
+fn letter(c: u8) -> u8
+    ensures { λ r. ⌜ r ≡ letterValue c ⌝ }
+{
+    match c {
+        b'A'..=b'F' => c - 55,
+        _ => 16,
+    }
+}
+
+// The number of a hexadecimal digit, 16 where the character is none: "a character is not 0 to 9 or A to F".
+// Each match has a single range, so that it is compiled without a branch.
+fn digit_value(c: u8) -> u8
+    ensures { λ r. ⌜ r ≡ digitValue c ⌝ }
+{
+    let other = letter(c);
+    match c {
+        b'0'..=b'9' => c - 48,
+        _ => other,
+    }
+}
+
+// The byte of two characters, 256 where one of them is no digit.
+pub fn two(high: u8, low: u8) -> u32
+    ensures { λ r. ⌜ r ≡ byteOf high low ⌝ }
+{
+    let h = digit_value(high);
+    let l = digit_value(low);
+    if 15 < h | l {
+        return 256;
+    }
+    16 * (h as u32) + l as u32
+}
+
+// What a digit of this number adds to the sum, by its place in the line: the first of a byte's two counts 16 times.
+fn weighed(v: u8, place: usize) -> u8
+    ensures { λ r. ⌜ r ≡ weigh place v ⌝ }
+{
+    if place % 2 == 0 {
+        return (16 * (v as u32) % 256) as u8;
+    }
+    v
+}
+
+// Whether a line of bytes has only digits and its sum is zero: "all bytes of the frame add up to zero, the sum wrapping at 256". One
+// character a turn and no early end, so that it becomes vector code where the length is known.
+pub fn adds_up(s: &[u8]) -> bool
+    requires { ⌜ length (now s) % 2 ≡ 0 ⌝ }
+    ensures { λ r. ⌜ r ≡ addsUp (now (s .entry)) ⌝ }
+{
+    let mut seen: u8 = 0;
+    let mut sum: u8 = 0;
+    let mut k: usize = 0;
+    while k < s.len() {
+        let v = digit_value(s[k]);
+        seen = seen | v;
+        sum = std::num::wrapping_add_u8(sum, weighed(v, k));
+        k += 1;
+    }
+    if 15 < seen {
+        return false;
+    }
+    sum == 0
+}
+
+// Whether a line has only digits.
+pub fn all_digits(s: &[u8]) -> bool
+    ensures { λ r. ⌜ r ≡ allDigits (now (s .entry)) ⌝ }
+{
+    let mut seen: u8 = 0;
+    let mut k: usize = 0;
+    while k < s.len() {
+        seen = seen | digit_value(s[k]);
+        k += 1;
+    }
+    seen <= 15
+}
+
+// The number of a character that is known to be a digit.
+fn value(c: u8) -> u8
+    requires { ⌜ digitValue c < 16 ⌝ }
+    ensures { λ r. ⌜ r ≡ digitValue c ⌝ }
+{
+    match c {
+        b'0'..=b'9' => c - 48,
+        _ => c - 55,
+    }
+}
+
+// The byte of two characters that are known to be digits.
+fn pair(high: u8, low: u8) -> u8
+    requires { ⌜ (digitValue high < 16) × (digitValue low < 16) ⌝ }
+    ensures { λ r. ⌜ r ≡ 16 * digitValue high + digitValue low ⌝ }
+{
+    16 * value(high) + value(low)
+}
+
+// A field of one byte, in a line of digits.
+pub fn byte(s: &[u8], at: usize) -> u8
+    requires { ⌜ Within (now s) at 1 ⌝ }
+    ensures { λ r. ⌜ r ≡ fieldAt (now (s .entry)) at 1 ⌝ }
+{
+    pair(s[2 * at], s[2 * at + 1])
+}
+
+// A field of four bytes, high byte first, in a line of digits.
+pub fn word(s: &[u8], at: usize) -> u32
+    requires { ⌜ Within (now s) at 4 ⌝ }
+    ensures { λ r. ⌜ r ≡ fieldAt (now (s .entry)) at 4 ⌝ }
+{
+    let high = 256 * (byte(s, at) as u32) + byte(s, at + 1) as u32;
+    let low = 256 * (byte(s, at + 2) as u32) + byte(s, at + 3) as u32;
+    65536 * high + low
+}

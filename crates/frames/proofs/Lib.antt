@@ -1,5 +1,0 @@
-pub mod LineLaws
-pub mod OneReply
-pub mod ReadLaws
-pub mod ShortLaws
-pub mod WriteLaws

@@ -1,0 +1,36 @@
+-- Records within a table: those of a log that stands at a place, what putting some of them elsewhere settles, and what carrying them requires.
+use mathlib.Core.Path.{_≡_}
+use mathlib.Core.Bool.{true}
+use mathlib.Core.List.{List, [], _∷_}
+use Prim.Native.Nat.{ℕ, _+_, _*_, _≤_, _<_}
+use lib.ListN.{length}
+use Rattle.meaning.specs.declared.Record.{Record}
+use Rattle.meaning.specs.Rows.{newer, recordAt, records, words, all}
+use Rattle.meaning.specs.Table.{logMost, part, place, recordSound}
+
+-- the first `held` records of the log at `from`, and one of its records
+abbrev pub logRecords : ℕ → ℕ → List ℕ → List Record
+logRecords from held t = records held (part from (4 * logMost) t)
+
+abbrev pub logRecord : ℕ → ℕ → List ℕ → Record
+logRecord from row t = recordAt (part from (4 * logMost) t) row
+
+-- Records put at a place: how many they are, and the words at exit
+pub record Puts (at : ℕ) (rs : List Record) (t : List ℕ) (n : ℕ) (u : List ℕ) : Type 0 where
+  pub many : n ≡ length rs
+  pub leaves : u ≡ place at (words rs) t
+
+-- The log read and the row written lie in the table, and the record's origin has an entry in the summary
+pub record Carries (t : List ℕ) (from row to : ℕ) (summary : List ℕ) : Type 0 where
+  pub inside : from + 4 * logMost ≤ length t
+  pub below : row < logMost
+  pub known : logRecord from row t .origin < length summary
+  pub fits : to + 4 * length (newer summary (logRecord from row t ∷ [])) ≤ length t
+
+-- The same of the first `held` records, and what is written lies apart from the log
+pub record CarriesAll (t : List ℕ) (from held to : ℕ) (summary : List ℕ) : Type 0 where
+  pub inside : from + 4 * logMost ≤ length t
+  pub below : held ≤ logMost
+  pub known : all (recordSound (length summary)) (logRecords from held t) ≡ true
+  pub fits : to + 4 * length (newer summary (logRecords from held t)) ≤ length t
+  pub apart : from < to + 4 * length (newer summary (logRecords from held t)) → to < from + 4 * logMost → ⊥

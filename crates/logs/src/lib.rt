@@ -1,0 +1,137 @@
+// Leaves over the records of a log, four words a row, lent as a part that starts anywhere.
+// They know no offset: where a log stands is the caller's to say. Inner functions: what they require, the table's code shows.
+ghost use mathlib.Core.Path.{_≡_};
+ghost use mathlib.Core.Bool.{true, not};
+ghost use mathlib.Core.List.{[], _∷_};
+ghost use Prim.Native.Nat.{_+_, _*_, _≤_, _<_};
+ghost use lib.ListN.{length};
+ghost use Rattle.meaning.specs.Rows.{covers, newer, above, recordAt, records, words, all};
+ghost use Rattle.meaning.specs.Table.{place, recordSound};
+ghost use Rattle.logs.specs.Carry.{logRecord, logRecords, Carries, CarriesAll, Puts};
+use layout::LOG_WORDS;
+use meaning::Record;
+
+// Fills a row of four words with a record.
+fn fill_record(row: &mut [u32], r: Record)
+    requires { ⌜ length (now row) ≡ 4 ⌝ }
+    ensures { λ _. ⌜ now (row .exit) ≡ words (r ∷ []) ⌝ }
+{
+    row[0] = r.origin;
+    row[1] = r.timestamp;
+    row[2] = r.block;
+    row[3] = r.verdict;
+}
+
+// Puts a record's four words.
+pub fn put_record(t: &mut [u32], at: usize, r: Record)
+    requires { ⌜ at + 4 ≤ length (now t) ⌝ }
+    ensures { λ _. ⌜ now (t .exit) ≡ place at (words (r ∷ [])) (now (t .entry)) ⌝ }
+{
+    let end = at + 4;
+    fill_record(&mut t[at..end], r);
+}
+
+// A record of a log, by its row.
+fn record_at(log: &[u32], row: usize) -> Record
+    requires { ⌜ 4 * row + 4 ≤ length (now log) ⌝ }
+    ensures { λ r. ⌜ r ≡ recordAt (now (log .entry)) row ⌝ }
+{
+    let at = 4 * row;
+    Record {
+        origin: log[at],
+        timestamp: log[at + 1],
+        block: log[at + 2],
+        verdict: log[at + 3],
+    }
+}
+
+// Is a record newer than a summary?
+fn is_newer(summary: &[u32], r: Record) -> bool
+    requires { ⌜ r .origin < length (now summary) ⌝ }
+    ensures { λ n. ⌜ n ≡ not (covers (now (summary .entry)) r) ⌝ }
+{
+    let origin = r.origin as usize;
+    let entry = summary[origin];
+    entry < r.timestamp
+}
+
+// Adds 1 to a count if the record is newer than the summary.
+fn newer_one(summary: &[u32], r: Record) -> usize
+    requires { ⌜ r .origin < length (now summary) ⌝ }
+    ensures { λ n. ⌜ n ≡ length (newer (now (summary .entry)) (r ∷ [])) ⌝ }
+{
+    if is_newer(summary, r) { 1 } else { 0 }
+}
+
+// How many of the first `held` records of a log are newer than a summary.
+pub fn newer_count(summary: &[u32], log: &[u32], held: usize) -> usize
+    requires { ⌜ (4 * held ≤ length (now log)) × (all (recordSound (length (now summary))) (records held (now log)) ≡ true) ⌝ }
+    ensures { λ n. ⌜ n ≡ length (newer (now (summary .entry)) (records held (now (log .entry)))) ⌝ }
+{
+    let mut k: usize = 0;
+    let mut i: usize = 0;
+    while i < held {
+        k += newer_one(summary, record_at(log, i));
+        i += 1;
+    }
+    k
+}
+
+// Carries one record of the log at `from` to the place `to`, if it is newer than the summary: 1 if so, else 0.
+fn carry_one(t: &mut [u32], from: usize, row: usize, to: usize, summary: &[u32]) -> usize
+    requires { ⌜ Carries (now t) from row to (now summary) ⌝ }
+    ensures { λ n. ⌜ Puts to (newer (now (summary .entry)) (logRecord from row (now (t .entry)) ∷ [])) (now (t .entry)) n (now (t .exit)) ⌝ }
+{
+    let end = from + LOG_WORDS;
+    let r = record_at(&t[from..end], row);
+    if is_newer(summary, r) {
+        put_record(t, to, r);
+        1
+    } else {
+        0
+    }
+}
+
+// Carries to the place `to`, in their order, those of the first `held` records of the log at `from` that are newer than the summary.
+// What it writes lies apart from that log. How many it carried.
+pub fn carry(t: &mut [u32], from: usize, held: usize, to: usize, summary: &[u32]) -> usize
+    requires { ⌜ CarriesAll (now t) from held to (now summary) ⌝ }
+    ensures { λ n. ⌜ Puts to (newer (now (summary .entry)) (logRecords from held (now (t .entry)))) (now (t .entry)) n (now (t .exit)) ⌝ }
+{
+    let mut k: usize = 0;
+    let mut i: usize = 0;
+    while i < held {
+        k += carry_one(t, from, i, to + 4 * k, summary);
+        i += 1;
+    }
+    k
+}
+
+// Moves one record of a log up to row k, if its timestamp is above the limit: 1 if so, else 0.
+fn close_one(log: &mut [u32], row: usize, k: usize, limit: u32) -> usize
+    requires { ⌜ (k ≤ row) × (4 * row + 4 ≤ length (now log)) ⌝ }
+    ensures { λ n. ⌜ Puts (4 * k) (above limit (recordAt (now (log .entry)) row ∷ [])) (now (log .entry)) n (now (log .exit)) ⌝ }
+{
+    let r = record_at(log, row);
+    if r.timestamp <= limit {
+        0
+    } else {
+        put_record(log, 4 * k, r);
+        1
+    }
+}
+
+// Closes up the first `held` records of a log whose timestamps are above the limit, in their order; the rows behind them are as they were.
+// How many are left.
+pub fn close_up(log: &mut [u32], held: usize, limit: u32) -> usize
+    requires { ⌜ 4 * held ≤ length (now log) ⌝ }
+    ensures { λ n. ⌜ Puts 0 (above limit (records held (now (log .entry)))) (now (log .entry)) n (now (log .exit)) ⌝ }
+{
+    let mut k: usize = 0;
+    let mut i: usize = 0;
+    while i < held {
+        k += close_one(log, i, k, limit);
+        i += 1;
+    }
+    k
+}

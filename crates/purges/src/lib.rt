@@ -1,0 +1,77 @@
+// Purge: the records that every node has acknowledged leave a log.
+ghost use mathlib.Core.Path.{_≡_};
+ghost use Prim.Native.Nat.{_+_, _-_, _*_, _≤_, _<_};
+ghost use lib.ListN.{length, replicate};
+ghost use Rattle.meaning.specs.declared.Action.the-variants.{Purge};
+ghost use Rattle.meaning.specs.Rows.{above};
+ghost use Rattle.meaning.specs.Table.{tableWords, nodesMost, logMost, logAt, count, node, place, Sound};
+ghost use Rattle.meaning.specs.Steps.{limit};
+ghost use Rattle.logs.specs.Carry.{Puts};
+ghost use Rattle.looks.specs.Applied.{Applied};
+ghost use Rattle.purges.specs.Dropped.{Dropped};
+use logs::close_up;
+use looks::held_of;
+use looks::nodes_of;
+use meaning::Reply;
+use rows::clear;
+use rows::least_of;
+use rows::put_word;
+
+// The smallest entry of node p's acknowledgement row, over its n entries.
+fn limit_of(t: &[u32], p: usize, n: usize) -> u32
+    requires { ⌜ Sound (now t) × (p < count (now t)) × (n ≡ count (now t)) ⌝ }
+    ensures { λ r. ⌜ r ≡ limit (now (t .entry)) p ⌝ }
+{
+    let at = layout::acks_at(p);
+    let end = at + n;
+    least_of(&t[at..end])
+}
+
+// "Every held record whose timestamp is at most [the limit] leaves. The rest close up in their order": how many are left.
+fn close_log(t: &mut [u32], p: usize, held: usize, limit: u32) -> usize
+    requires { ⌜ Sound (now t) × (p < count (now t)) × (held ≡ Rattle.meaning.specs.Table.held (now t) p) ⌝ }
+    ensures { λ r. ⌜ Puts (logAt p) (above limit (node (now (t .entry)) p .log)) (now (t .entry)) r (now (t .exit)) × (r ≤ held) ⌝ }
+{
+    let at = layout::log_at(p);
+    let end = at + layout::LOG_WORDS;
+    close_up(&mut t[at..end], held, limit)
+}
+
+// "the rows so freed become zero"
+fn clear_rows(t: &mut [u32], p: usize, left: usize, held: usize)
+    requires { ⌜ (length (now t) ≡ tableWords) × (p < nodesMost) × (left ≤ held) × (held ≤ logMost) ⌝ }
+    ensures { λ _. ⌜ now (t .exit) ≡ place (logAt p + 4 * left) (replicate (4 * (held - left)) 0) (now (t .entry)) ⌝ }
+{
+    let at = layout::log_at(p);
+    let from = at + 4 * left;
+    let to = at + 4 * held;
+    clear(&mut t[from..to]);
+}
+
+// The records above the limit are left, in their order, the rows behind them zero; the held number is theirs: how many they are.
+fn drop_rows(t: &mut [u32], p: usize, held: usize, limit: u32) -> usize
+    requires { ⌜ Sound (now t) × (p < count (now t)) × (held ≡ Rattle.meaning.specs.Table.held (now t) p) × (held ≤ logMost) ⌝ }
+    ensures { λ r. ⌜ Dropped (now (t .entry)) p limit r (now (t .exit)) × (r ≤ held) ⌝ }
+{
+    let left = close_log(t, p, held, limit);
+    clear_rows(t, p, left, held);
+    put_word(t, layout::held_at(p), left as u32);
+    left
+}
+
+// A purge on a sound table, refused with 3 or done.
+pub fn purge(t: &mut [u32], node: u8) -> Reply
+    requires { ⌜ Sound (now t) ⌝ }
+    ensures { λ r. ⌜ Applied (now (t .entry)) (Purge node) r (now (t .exit)) ⌝ }
+{
+    let p = node as usize;
+    let n = nodes_of(t);
+    if n <= p {
+        return Reply::Refused { number: 3 };
+    }
+    let held = held_of(t, p);
+    let limit = limit_of(t, p, n);
+    let left = drop_rows(t, p, held, limit);
+    let removed = (held - left) as u32;
+    Reply::Purged { removed }
+}

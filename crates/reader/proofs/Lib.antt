@@ -1,0 +1,3 @@
+pub mod Holding
+pub mod Making
+pub mod OneReply

@@ -1,0 +1,23 @@
+-- `check` meets its contract: where the head is none, its refusal.
+use mathlib.Core.Path.{sym}
+use Rattle.heads.proofs.HeadLaws.{head-clear}
+use borrow.Author.Needs.{needs}
+use Rattle.reading.proofs.check.Statement.{statement}
+use Rattle.reading.proofs.check.Tie as tie
+
+head-requires : tie.Need-head-requires
+head-requires c κs = search needs
+
+refusal-requires : tie.Need-refusal-requires
+refusal-requires c κs = search needs
+
+returns : tie.Need-returns
+returns c = c .refusal .ensures
+
+returns-2 : tie.Need-returns-2
+returns-2 c =
+    let at-head = c .before in
+    sym (head-clear (at-head .before .before .args .s .now) (at-head .head .result) (at-head .head .ensures) (c .if1 .left) .0)
+
+pub check-spec : {M : Type 1} → statement M
+check-spec = tie.close (tie.spec head-requires refusal-requires returns returns-2)

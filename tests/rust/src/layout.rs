@@ -1,0 +1,53 @@
+//! The numbers of document 01 that say how large a thing is and where it stands in a table: the one
+//! file of the Rust programs that knows them.
+#![allow(dead_code)]
+
+use std::ops::RangeInclusive;
+
+/// The nodes that a table has room for, and the counts that it may have.
+pub const NODES: usize = 16;
+pub const COUNTS: RangeInclusive<u32> = 2..=NODES as u32;
+
+/// The records that a log has room for, and the words of each.
+pub const ROOM: usize = 64;
+pub const RECORD: usize = 4;
+
+/// The parts of a table in their order, each where the one before it ends.
+pub const COUNT: usize = 0;
+pub const SUMMARIES: usize = COUNT + 1;
+pub const ACKNOWLEDGEMENTS: usize = SUMMARIES + NODES * NODES;
+pub const HELD: usize = ACKNOWLEDGEMENTS + NODES * NODES;
+pub const LOGS: usize = HELD + NODES;
+pub const WORDS: usize = LOGS + NODES * ROOM * RECORD;
+
+/// The bytes that a journal may have at most, and those that a replay's text has room in.
+pub const JOURNAL: usize = 65_536;
+pub const TEXT: usize = 12_288;
+
+const _: () = assert!(WORDS == 4_625);
+
+/// The word of a record in a log.
+pub fn record_at(p: usize, row: usize, word: usize) -> usize {
+    LOGS + RECORD * (ROOM * p + row) + word
+}
+
+/// The place of a word of a table in document 01's terms.
+pub fn place(at: usize) -> String {
+    let in_rows = |from: usize| ((at - from) / NODES, (at - from) % NODES);
+    if at < SUMMARIES {
+        return "the count".into();
+    }
+    if at < ACKNOWLEDGEMENTS {
+        let (p, o) = in_rows(SUMMARIES);
+        return format!("summary of node {p}, entry {o}");
+    }
+    if at < HELD {
+        let (p, q) = in_rows(ACKNOWLEDGEMENTS);
+        return format!("acknowledgements of node {p}, entry {q}");
+    }
+    if at < LOGS {
+        return format!("held number of node {}", at - HELD);
+    }
+    let row = (at - LOGS) / RECORD;
+    format!("log of node {}, row {}, word {}", row / ROOM, row % ROOM, (at - LOGS) % RECORD)
+}
