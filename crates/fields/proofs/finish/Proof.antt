@@ -1,10 +1,10 @@
 -- `finish` meets its contract: the negated sum is put, and the LF set.
 use Prim.Native.Nat.{_-_, _%_}
 use native.Mathlib.Omega.{arith}
-use Rattle.writing.proofs.WriteLaws.{put-last, negated}
+use Rattle.fields.proofs.FieldLaws.{put-last, negated}
 use borrow.Author.Needs.{needs}
-use Rattle.writing.proofs.write.finish.Statement.{statement}
-use Rattle.writing.proofs.write.finish.Tie as tie
+use Rattle.fields.proofs.finish.Statement.{statement}
+use Rattle.fields.proofs.finish.Tie as tie
 
 wrapping-sub-u8-requires : tie.Need-wrapping-sub-u8-requires
 wrapping-sub-u8-requires c κs = search needs

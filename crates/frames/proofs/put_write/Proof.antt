@@ -1,8 +1,8 @@
 -- `put_write` meets its contract: the frame, field after field.
-use Rattle.writing.proofs.WriteLaws.{put-write}
+use Rattle.frames.proofs.WriteLaws.{put-write}
 use borrow.Author.Needs.{needs}
-use Rattle.writing.proofs.write.put_write.Statement.{statement}
-use Rattle.writing.proofs.write.put_write.Tie as tie
+use Rattle.frames.proofs.put_write.Statement.{statement}
+use Rattle.frames.proofs.put_write.Tie as tie
 
 put-requires : tie.Need-put-requires
 put-requires c κs = search needs

@@ -1,9 +1,9 @@
 -- `put_short` meets its contract: the frame, field after field.
 use native.Mathlib.Omega.{arith}
-use Rattle.writing.proofs.WriteLaws.{put-short}
+use Rattle.frames.proofs.WriteLaws.{put-short}
 use borrow.Author.Needs.{needs}
-use Rattle.writing.proofs.write.put_short.Statement.{statement}
-use Rattle.writing.proofs.write.put_short.Tie as tie
+use Rattle.frames.proofs.put_short.Statement.{statement}
+use Rattle.frames.proofs.put_short.Tie as tie
 
 put-requires : tie.Need-put-requires
 put-requires c κs = search needs

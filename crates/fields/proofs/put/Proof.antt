@@ -1,5 +1,5 @@
 -- `put` meets its contract. The loop's invariant: what is left to put, and to add, gives the whole field.
-use Rattle.writing.proofs.WriteLaws.{put-turn, sum-turn, put-end, sum-end}
+use Rattle.fields.proofs.FieldLaws.{put-turn, sum-turn, put-end, sum-end}
 use mathlib.Core.Path.{_≡_, refl}
 use Prim.Native.Nat.{_+_, _-_, _*_, _%_, _≤_, _<_}
 use native.Mathlib.Omega.{arith}
@@ -7,8 +7,8 @@ use lib.ListN.{length}
 use borrow.Author.Needs.{needs}
 use Rattle.meaning.specs.Table.{place}
 use Rattle.meaning.specs.Frames.{spelled, highFirst, total}
-use Rattle.writing.proofs.write.put.Statement.{statement}
-use Rattle.writing.proofs.write.put.Tie as tie
+use Rattle.fields.proofs.put.Statement.{statement}
+use Rattle.fields.proofs.put.Tie as tie
 
 abbrev Inv-loop : tie.InvT-loop
 Inv-loop out₀ at width value sum added₀ rest₀ k₀ out added rest k =

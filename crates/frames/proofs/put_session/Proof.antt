@@ -1,8 +1,8 @@
 -- `put_session` meets its contract: the frame, field after field.
-use Rattle.writing.proofs.WriteLaws.{put-session}
+use Rattle.frames.proofs.WriteLaws.{put-session}
 use borrow.Author.Needs.{needs}
-use Rattle.writing.proofs.write.put_session.Statement.{statement}
-use Rattle.writing.proofs.write.put_session.Tie as tie
+use Rattle.frames.proofs.put_session.Statement.{statement}
+use Rattle.frames.proofs.put_session.Tie as tie
 
 put-requires : tie.Need-put-requires
 put-requires c κs = search needs

@@ -1,9 +1,9 @@
 -- `digit_of` meets its contract: each arm has its law.
 use native.Mathlib.Omega.{arith}
-use Rattle.writing.proofs.WriteLaws.{digit-low, digit-high}
+use Rattle.fields.proofs.FieldLaws.{digit-low, digit-high}
 use borrow.Author.Needs.{needs}
-use Rattle.writing.proofs.write.digit_of.Statement.{statement}
-use Rattle.writing.proofs.write.digit_of.Tie as tie
+use Rattle.fields.proofs.digit_of.Statement.{statement}
+use Rattle.fields.proofs.digit_of.Tie as tie
 
 add-result : tie.Need-add-result
 add-result c = search needs

@@ -1,10 +1,10 @@
 -- `put_byte` meets its contract: two digits set are a byte put.
 use native.Mathlib.Omega.{arith}
 use lib.ListN.{length-set}
-use Rattle.writing.proofs.WriteLaws.{put-pair}
+use Rattle.fields.proofs.FieldLaws.{put-pair}
 use borrow.Author.Needs.{needs}
-use Rattle.writing.proofs.write.put_byte.Statement.{statement}
-use Rattle.writing.proofs.write.put_byte.Tie as tie
+use Rattle.fields.proofs.put_byte.Statement.{statement}
+use Rattle.fields.proofs.put_byte.Tie as tie
 
 digit-of-requires : tie.Need-digit-of-requires
 digit-of-requires c κs = search needs
