@@ -8,7 +8,7 @@ use native.Mathlib.Nat.{add-mod-mod, mod-add-mod}
 use lib.ListN.{length, set, length-set}
 use borrow.Author.Tests.{lt-ltb, le-ltb}
 use Rattle.meaning.specs.Table.{place}
-use Rattle.meaning.specs.Frames.{digit, spelled, highFirst, total, check}
+use Rattle.meaning.specs.Frames.{digit, spelled, highFirst, total}
 use Rattle.meaning.proofs.PlaceLaws.{length-place, place-append, place-comm, set-place, place-none}
 use Rattle.meaning.proofs.FrameLaws.{total-append, spelled-append, length-spelled, length-highFirst}
 

@@ -1,32 +1,32 @@
 -- `put_session` meets its contract: the frame, field after field.
 use Rattle.frames.proofs.WriteLaws.{put-session}
-use borrow.Author.Needs.{needs}
+use native.Mathlib.Omega.{arith}
 use Rattle.frames.proofs.put_session.Statement.{statement}
 use Rattle.frames.proofs.put_session.Tie as tie
 
 put-requires : tie.Need-put-requires
-put-requires c κs = search needs
+put-requires c κs = omega arith
 
 put-requires-2 : tie.Need-put-requires-2
-put-requires-2 c κs = search needs
+put-requires-2 c κs = omega arith
 
 put-requires-3 : tie.Need-put-requires-3
-put-requires-3 c κs = search needs
+put-requires-3 c κs = omega arith
 
 put-requires-4 : tie.Need-put-requires-4
-put-requires-4 c κs = search needs
+put-requires-4 c κs = omega arith
 
 put-requires-5 : tie.Need-put-requires-5
-put-requires-5 c κs = search needs
+put-requires-5 c κs = omega arith
 
 put-requires-6 : tie.Need-put-requires-6
-put-requires-6 c κs = search needs
+put-requires-6 c κs = omega arith
 
 finish-requires : tie.Need-finish-requires
-finish-requires c κs = search needs
+finish-requires c κs = omega arith
 
 same-length : tie.Need-same-length
-same-length c = search needs
+same-length c = omega arith
 
 returns : tie.Need-returns
 returns c =

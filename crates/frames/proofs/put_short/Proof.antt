@@ -1,21 +1,21 @@
 -- `put_short` meets its contract: the frame, field after field.
 use native.Mathlib.Omega.{arith}
 use Rattle.frames.proofs.WriteLaws.{put-short}
-use borrow.Author.Needs.{needs}
+use native.Mathlib.Omega.{arith}
 use Rattle.frames.proofs.put_short.Statement.{statement}
 use Rattle.frames.proofs.put_short.Tie as tie
 
 put-requires : tie.Need-put-requires
-put-requires c κs = search needs
+put-requires c κs = omega arith
 
 put-requires-2 : tie.Need-put-requires-2
-put-requires-2 c κs = search needs
+put-requires-2 c κs = omega arith
 
 finish-requires : tie.Need-finish-requires
-finish-requires c κs = search needs
+finish-requires c κs = omega arith
 
 same-length : tie.Need-same-length
-same-length c = search needs
+same-length c = omega arith
 
 returns : tie.Need-returns
 returns c =

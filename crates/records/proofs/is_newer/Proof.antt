@@ -3,8 +3,8 @@ use lib.ListN.{getD}
 use Rattle.meaning.specs.Rows.{covers}
 use Rattle.meaning.proofs.RowLaws.{ltb-not-leb}
 use borrow.Author.Needs.{needs}
-use Rattle.logs.proofs.is_newer.Statement.{statement}
-use Rattle.logs.proofs.is_newer.Tie as tie
+use Rattle.records.proofs.is_newer.Statement.{statement}
+use Rattle.records.proofs.is_newer.Tie as tie
 
 cast-origin : tie.Need-cast-origin
 cast-origin c = search needs

@@ -6,8 +6,8 @@ use native.Mathlib.Omega.{arith}
 use lib.ListN.{length, set}
 use Rattle.meaning.specs.Rows.{words}
 use borrow.Author.Needs.{needs}
-use Rattle.logs.proofs.fill_record.Statement.{statement}
-use Rattle.logs.proofs.fill_record.Tie as tie
+use Rattle.records.proofs.fill_record.Statement.{statement}
+use Rattle.records.proofs.fill_record.Tie as tie
 
 four : (t : List ℕ) (a b c d : ℕ) → length t ≡ 4 → set (set (set (set t 0 a) 1 b) 2 c) 3 d ≡ a ∷ b ∷ c ∷ d ∷ []
 four [] a b c d h = absurd (omega arith)

@@ -8,8 +8,8 @@ use Rattle.meaning.specs.Rows.{words}
 use Rattle.meaning.proofs.PlaceLaws.{mid-place}
 use Rattle.meaning.proofs.RowLaws.{length-words}
 use borrow.Author.Needs.{needs}
-use Rattle.logs.proofs.put_record.Statement.{statement}
-use Rattle.logs.proofs.put_record.Tie as tie
+use Rattle.records.proofs.put_record.Statement.{statement}
+use Rattle.records.proofs.put_record.Tie as tie
 
 add-end : tie.Need-add-end
 add-end c = search needs

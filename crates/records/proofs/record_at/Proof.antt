@@ -2,8 +2,8 @@
 use mathlib.Core.Path.{refl}
 use Rattle.meaning.specs.Rows.{recordAt}
 use borrow.Author.Needs.{needs}
-use Rattle.logs.proofs.record_at.Statement.{statement}
-use Rattle.logs.proofs.record_at.Tie as tie
+use Rattle.records.proofs.record_at.Statement.{statement}
+use Rattle.records.proofs.record_at.Tie as tie
 
 mul-at : tie.Need-mul-at
 mul-at c = search needs

@@ -9,37 +9,37 @@ use Rattle.meaning.specs.Table.{summaryAt, acksAt, part, count}
 use Rattle.meaning.specs.Journals.{spaced}
 use Rattle.printing.specs.Wrote.{Wrote}
 use Rattle.printing.proofs.Writing.{wrote-as, wrote-then}
-use Rattle.text.proofs.Lines.{line-is}
+use Rattle.lines.proofs.LineLaws.{line-is}
 use borrow.Author.Needs.{needs}
-use Rattle.text.proofs.node_line.Statement.{statement}
-use Rattle.text.proofs.node_line.Tie as tie
+use Rattle.lines.proofs.node_line.Statement.{statement}
+use Rattle.lines.proofs.node_line.Tie as tie
 
 number-requires : tie.Need-number-requires
-number-requires c κs = search needs
+number-requires c κs = omega arith
 
 slice-aggregate-vector : tie.Need-slice-aggregate-vector
 slice-aggregate-vector c = search needs
 
 summary-at-requires : tie.Need-summary-at-requires
-summary-at-requires c κs = search needs
+summary-at-requires c κs = omega arith
 
 vector-requires : tie.Need-vector-requires
-vector-requires c κs = search needs
+vector-requires c κs = omega arith
 
 slice-aggregate-vector-2 : tie.Need-slice-aggregate-vector-2
 slice-aggregate-vector-2 c = search needs
 
 acks-at-requires : tie.Need-acks-at-requires
-acks-at-requires c κs = search needs
+acks-at-requires c κs = omega arith
 
 vector-requires-2 : tie.Need-vector-requires-2
-vector-requires-2 c κs = search needs
+vector-requires-2 c κs = omega arith
 
 held-part-requires : tie.Need-held-part-requires
-held-part-requires c κs = search needs
+held-part-requires c κs = omega arith
 
 put-requires : tie.Need-put-requires
-put-requires c κs = search needs
+put-requires c κs = omega arith
 
 same-length : tie.Need-same-length
 same-length c = search needs
