@@ -1,4 +1,4 @@
-// The printed text of a replay, written into a lent buffer: its first line, and the nodes' lines of the crate `lines`.
+// The printed text of a replay, written into a lent buffer: its first line, and the nodes' lines of the crate `nodelines`.
 // Document 01, "Frames and journals". Each inner function writes at a place and answers the place after what it wrote.
 ghost use mathlib.Core.List.{_++_};
 ghost use Prim.Native.Nat.{_≤_};
@@ -6,7 +6,7 @@ ghost use lib.ListN.{length};
 ghost use Rattle.meaning.specs.Table.{nodesMost};
 ghost use Rattle.meaning.specs.Journals.{nodeLines};
 ghost use Rattle.printing.specs.Wrote.{Wrote};
-ghost use Rattle.lines.specs.Nodes.{Nodes};
+ghost use Rattle.nodelines.specs.Nodes.{Nodes};
 ghost use Rattle.text.specs.Text.{Shown, badLine, firstLine, textMost, textFor};
 use layout::COUNT_AT;
 use layout::NODES_MOST;
@@ -43,7 +43,7 @@ fn all_lines(out: &mut [u8], n: u32, steps: usize, refused: usize, t: &[u32]) ->
     ensures { λ r. ⌜ Wrote (now (out .entry)) 0 (firstLine n steps refused ++ nodeLines n (now (t .entry))) textMost r (now (out .exit)) ⌝ }
 {
     let a = first_line(out, n, steps, refused);
-    lines::node_lines(out, a, n as usize, t)
+    nodelines::node_lines(out, a, n as usize, t)
 }
 
 // The text of a replay that came to its end, or nothing where the table has not the words.

@@ -9,10 +9,10 @@ use Rattle.meaning.specs.Table.{summaryAt, acksAt, part, count}
 use Rattle.meaning.specs.Journals.{spaced}
 use Rattle.printing.specs.Wrote.{Wrote}
 use Rattle.printing.proofs.Writing.{wrote-as, wrote-then}
-use Rattle.lines.proofs.LineLaws.{line-is}
+use Rattle.nodelines.proofs.LineLaws.{line-is}
 use borrow.Author.Needs.{needs}
-use Rattle.lines.proofs.node_line.Statement.{statement}
-use Rattle.lines.proofs.node_line.Tie as tie
+use Rattle.nodelines.proofs.node_line.Statement.{statement}
+use Rattle.nodelines.proofs.node_line.Tie as tie
 
 number-requires : tie.Need-number-requires
 number-requires c κs = omega arith

@@ -8,10 +8,10 @@ use denote.Ref.{now}
 use Rattle.meaning.specs.Table.{count, part}
 use Rattle.meaning.specs.Journals.{spaced}
 use Rattle.printing.proofs.Writing.{wrote-as}
-use Rattle.lines.proofs.LineLaws.{between, length-between, count-is}
+use Rattle.nodelines.proofs.LineLaws.{between, length-between, count-is}
 use borrow.Author.Needs.{needs}
-use Rattle.lines.proofs.vector.Statement.{statement}
-use Rattle.lines.proofs.vector.Tie as tie
+use Rattle.nodelines.proofs.vector.Statement.{statement}
+use Rattle.nodelines.proofs.vector.Tie as tie
 
 shared-slice-read-n : tie.Need-shared-slice-read-n
 shared-slice-read-n c = search needs

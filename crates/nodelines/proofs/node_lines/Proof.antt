@@ -7,9 +7,9 @@ use denote.Ref.{now}
 use Rattle.meaning.specs.Journals.{nodeLines}
 use Rattle.printing.specs.Wrote.{Wrote}
 use Rattle.printing.proofs.Writing.{wrote-none, wrote-as, wrote-then}
-use Rattle.lines.proofs.LineLaws.{lines-none, lines-more}
-use Rattle.lines.proofs.node_lines.Statement.{statement}
-use Rattle.lines.proofs.node_lines.Tie as tie
+use Rattle.nodelines.proofs.LineLaws.{lines-none, lines-more}
+use Rattle.nodelines.proofs.node_lines.Statement.{statement}
+use Rattle.nodelines.proofs.node_lines.Tie as tie
 
 abbrev Inv-loop : tie.InvT-loop
 Inv-loop out₀ at n t next₀ p₀ out next p = (p ≤ n) × (length out ≡ length out₀) × Wrote out₀ at (nodeLines p t) (720 * p) next out

@@ -9,10 +9,10 @@ use Rattle.meaning.specs.Rows.{ascii}
 use Rattle.meaning.specs.Table.{held}
 use Rattle.meaning.specs.Journals.{spaced}
 use Rattle.printing.proofs.Writing.{wrote-as}
-use Rattle.lines.proofs.LineLaws.{held-is, said-is}
+use Rattle.nodelines.proofs.LineLaws.{held-is, said-is}
 use borrow.Author.Needs.{needs}
-use Rattle.lines.proofs.held_part.Statement.{statement}
-use Rattle.lines.proofs.held_part.Tie as tie
+use Rattle.nodelines.proofs.held_part.Statement.{statement}
+use Rattle.nodelines.proofs.held_part.Tie as tie
 
 held-at-requires : tie.Need-held-at-requires
 held-at-requires c κs = search needs

@@ -6,7 +6,7 @@ ghost use lib.ListN.{length};
 ghost use Rattle.meaning.specs.Table.{nodesMost, held, node};
 ghost use Rattle.meaning.specs.Journals.{said, nodeLine, nodeLines};
 ghost use Rattle.printing.specs.Wrote.{Wrote};
-ghost use Rattle.lines.specs.Nodes.{Nodes, saidPart};
+ghost use Rattle.nodelines.specs.Nodes.{Nodes, saidPart};
 use layout::COUNT_AT;
 
 // A word and the first n entries of the table's row at a place.

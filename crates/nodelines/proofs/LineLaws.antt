@@ -10,7 +10,7 @@ use Rattle.meaning.specs.Rows.{ascii}
 use Rattle.meaning.specs.Table.{logMost, summaryAt, acksAt, heldAt, logAt, part, count, held, node}
 use Rattle.meaning.specs.Journals.{decimal, spaced, said, nodeLine, nodeLines}
 use Rattle.meaning.proofs.RowLaws.{length-records}
-use Rattle.lines.specs.Nodes.{saidPart}
+use Rattle.nodelines.specs.Nodes.{saidPart}
 
 -- the part of a list between two places, as the code lends it
 pub between : (a n : ℕ) (t : List ℕ) → take (a + n - a) (drop a t) ≡ part a n t
