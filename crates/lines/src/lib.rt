@@ -4,12 +4,37 @@ ghost use mathlib.Core.Path.{_≡_};
 ghost use Prim.Native.Nat.{_+_, _≤_};
 ghost use lib.ListN.{length};
 ghost use Rattle.meaning.specs.Table.{Sound};
+ghost use Rattle.looks.specs.Applied.{Applied};
 ghost use Rattle.lines.specs.Applying.{refusedBy, Stepped, AppliedFrom, AppliedLine, AppliedLines};
+use meaning::Action;
 use meaning::Line;
 use meaning::Next;
 use meaning::Progress;
 use meaning::Reply;
 use meaning::Step;
+
+// One action on any words, by its fields. `table::apply` does the same; `apply_from` alone calls what stands below that, so that it is compiled
+// into the loop.
+fn act(t: &mut [u32], action: Action) -> Reply
+    ensures { λ r. ⌜ Applied (now (t .entry)) action r (now (t .exit)) ⌝ }
+{
+    match action {
+        Action::Write {
+            node,
+            timestamp,
+            block,
+            verdict,
+        } => table::act::write(t, node, timestamp, block, verdict),
+        Action::Session {
+            a,
+            b,
+            ca,
+            cb,
+            outcome,
+        } => table::act::session(t, a, b, ca, cb, outcome),
+        Action::Purge { node } => table::act::purge(t, node),
+    }
+}
 
 // One line on any words: the line's refusal, 15 for a start, or what its step reports; a refusal changes no word.
 pub fn apply_line(t: &mut [u32], line: &[u8]) -> Reply
@@ -17,7 +42,10 @@ pub fn apply_line(t: &mut [u32], line: &[u8]) -> Reply
 {
     match reading::read_line(line, 1) {
         Line::Begin { n: _ } => Reply::Refused { number: 15 },
-        Line::Act { step } => table::apply(t, step),
+        Line::Act { step } => {
+            let action = step.action;
+            act(t, action)
+        }
         Line::Refused { number } => Reply::Refused { number },
     }
 }

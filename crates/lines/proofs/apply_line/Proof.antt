@@ -15,8 +15,8 @@ enum-told c = search needs
 enum-known-step : tie.Need-enum-known-step
 enum-known-step c = search needs
 
-apply-requires : tie.Need-apply-requires
-apply-requires c κs = search needs
+act-requires : tie.Need-act-requires
+act-requires c κs = search needs
 
 enum-known-number : tie.Need-enum-known-number
 enum-known-number c = search needs
@@ -32,12 +32,12 @@ same-length c = search needs
 
 returns-2 : tie.Need-returns-2
 returns-2 c =
-    let at-apply = c .before .before in
-    let at-step = at-apply .before .before .before in
+    let at-act = c .before .before in
+    let at-step = at-act .before .before .before in
     let at-read = at-step .before .before in
     let a = at-read .before .before .before .args in
     let d = line-is (now (a .t)) (now (a .line)) (sym (at-read .read-line .ensures) ∙ at-step .step .given .1) in
-    (at-apply .apply .ensures .0 ∙ d .0, at-apply .apply .ensures .1 ∙ d .1)
+    (at-act .act .ensures .0 ∙ d .0, at-act .act .ensures .1 ∙ d .1)
 
 returns-3 : tie.Need-returns-3
 returns-3 c =
@@ -53,7 +53,7 @@ apply-line-spec =
     read-line-requires
     enum-told
     enum-known-step
-    apply-requires
+    act-requires
     enum-known-number
     returns
     same-length
