@@ -3,11 +3,11 @@ use mathlib.Core.Path.{ap, _∙_}
 use denote.Ref.{now}
 use Rattle.meaning.specs.Steps.{refusal}
 use Rattle.meaning.proofs.StepLaws.{after-sound}
-use Rattle.run.specs.Run.{refusedBy}
-use Rattle.run.proofs.Running.{verdict-fits, refused-counts, one-most}
+use Rattle.lines.specs.Applying.{refusedBy}
+use Rattle.lines.proofs.Applying.{verdict-fits, refused-counts, one-most}
 use borrow.Author.Needs.{needs}
-use Rattle.run.proofs.step.Statement.{statement}
-use Rattle.run.proofs.step.Tie as tie
+use Rattle.lines.proofs.step.Statement.{statement}
+use Rattle.lines.proofs.step.Tie as tie
 
 apply-sound-requires : tie.Need-apply-sound-requires
 apply-sound-requires c κs = search needs
