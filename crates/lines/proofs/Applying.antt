@@ -13,12 +13,16 @@ use Rattle.meaning.specs.declared.Action.{Action}
 use Rattle.meaning.specs.declared.Action.the-variants.{Write, Session, Purge}
 use Rattle.meaning.specs.declared.Step.{Step}
 use Rattle.meaning.specs.declared.Line.{Line}
-use Rattle.meaning.specs.declared.Next.the-variants.{Act as ActAt, End}
+use Rattle.meaning.specs.declared.Line.the-variants.{Begin, Act, Refused}
+use Rattle.meaning.specs.declared.Reply.{Reply}
+use Rattle.meaning.specs.declared.Reply.the-variants.{Refused as RefusedWith}
+use Rattle.meaning.specs.declared.Next.{Next}
+use Rattle.meaning.specs.declared.Next.the-variants.{Begin as BeginAt, Act as ActAt, Refused as RefusedAt, End}
 use Rattle.meaning.specs.declared.Progress.{Progress}
 use Rattle.meaning.specs.Table.{sound, Sound}
 use Rattle.meaning.specs.Steps.{refusal, reported, replied, reply, after}
 use Rattle.meaning.specs.Frames.{readLine}
-use Rattle.meaning.specs.Journals.{Steps, broken, step∷, oneIf, nextIn, stepsFrom, afterAll, refusedOf}
+use Rattle.meaning.specs.Journals.{Steps, broken, step∷, oneIf, inTurn, nextIn, stepsFrom, afterAll, refusedOf}
 use Rattle.meaning.specs.Lines.{replyTo, leftBy, lineReply, lineAfter, progress, unread, linesReply, linesAfter}
 use Rattle.meaning.proofs.Action as A
 use Rattle.meaning.proofs.Action.Laws as A′
@@ -160,10 +164,27 @@ module _ {s : List ℕ} {from first : ℕ} {t₀ t : List ℕ} {at steps refused
         table = rw l (sym (w .table) ∙ after-step t y (rest .steps) ∙ rw (d .leaves));
       }
 
--- one line, by what it says
-pub line-is : (t l : List ℕ) {x : Line} → readLine 1 l ≡ x → (replyTo t x ≡ lineReply t l) × (leftBy t x ≡ lineAfter t l)
+-- one line, by what it says in its turn, which is never the first
+abbrev pub replyIn : List ℕ → Next → Reply
+replyIn t (BeginAt n next) = RefusedWith 15
+replyIn t (ActAt s next) = reply t (s .action)
+replyIn t (RefusedAt k) = RefusedWith k
+replyIn t End = RefusedWith 15
+
+abbrev pub leftIn : List ℕ → Next → List ℕ
+leftIn t (BeginAt n next) = t
+leftIn t (ActAt s next) = after t (s .action)
+leftIn t (RefusedAt k) = t
+leftIn t End = t
+
+turn-is : (t : List ℕ) (x : Line) → (replyIn t (inTurn false 0 x) ≡ replyTo t x) × (leftIn t (inTurn false 0 x) ≡ leftBy t x)
+turn-is t (Begin n) = (refl, refl)
+turn-is t (Act s) = (refl, refl)
+turn-is t (Refused k) = (refl, refl)
+
+pub line-is : (t l : List ℕ) {x : Next} → inTurn false 0 (readLine 1 l) ≡ x → (replyIn t x ≡ lineReply t l) × (leftIn t x ≡ lineAfter t l)
 unfolding lineReply lineAfter
-line-is t l e = (rw e, rw e)
+line-is t l e = (ap (replyIn t) (sym e) ∙ turn-is t (readLine 1 l) .0, ap (leftIn t) (sym e) ∙ turn-is t (readLine 1 l) .1)
 
 -- many lines, on a table that is not sound and on one that is
 pub lines-unsound : (t s : List ℕ) → sound t ≡ false → AppliedLines t s unread t

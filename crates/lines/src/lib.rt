@@ -7,7 +7,6 @@ ghost use Rattle.meaning.specs.Table.{Sound};
 ghost use Rattle.looks.specs.Applied.{Applied};
 ghost use Rattle.lines.specs.Applying.{refusedBy, Stepped, AppliedFrom, AppliedLine, AppliedLines};
 use meaning::Action;
-use meaning::Line;
 use meaning::Next;
 use meaning::Progress;
 use meaning::Reply;
@@ -40,13 +39,14 @@ fn act(t: &mut [u32], action: Action) -> Reply
 pub fn apply_line(t: &mut [u32], line: &[u8]) -> Reply
     ensures { λ r. ⌜ AppliedLine (now (t .entry)) (now (line .entry)) r (now (t .exit)) ⌝ }
 {
-    match reading::read_line(line, 1) {
-        Line::Begin { n: _ } => Reply::Refused { number: 15 },
-        Line::Act { step } => {
+    match journal::said(line, 1, false, 0) {
+        Next::Begin { n: _, next: _ } => Reply::Refused { number: 15 },
+        Next::Act { step, next: _ } => {
             let action = step.action;
             act(t, action)
         }
-        Line::Refused { number } => Reply::Refused { number },
+        Next::Refused { number } => Reply::Refused { number },
+        Next::End => Reply::Refused { number: 15 },
     }
 }
 

@@ -6,8 +6,8 @@ use borrow.Author.Needs.{needs}
 use Rattle.lines.proofs.apply_line.Statement.{statement}
 use Rattle.lines.proofs.apply_line.Tie as tie
 
-read-line-requires : tie.Need-read-line-requires
-read-line-requires c κs = search needs
+said-requires : tie.Need-said-requires
+said-requires c κs = search needs
 
 enum-told : tie.Need-enum-told
 enum-told c = search needs
@@ -23,9 +23,9 @@ enum-known-number c = search needs
 
 returns : tie.Need-returns
 returns c =
-    let at-read = c .before .before in
-    let a = at-read .before .before .before .args in
-    line-is (now (a .t)) (now (a .line)) (sym (at-read .read-line .ensures) ∙ c .enum-told .given .1)
+    let at-said = c .before .before in
+    let a = at-said .before .before .before .args in
+    line-is (now (a .t)) (now (a .line)) (sym (at-said .said .ensures) ∙ c .enum-told .given .1)
 
 same-length : tie.Need-same-length
 same-length c = search needs
@@ -34,28 +34,39 @@ returns-2 : tie.Need-returns-2
 returns-2 c =
     let at-act = c .before .before in
     let at-step = at-act .before .before .before in
-    let at-read = at-step .before .before in
-    let a = at-read .before .before .before .args in
-    let d = line-is (now (a .t)) (now (a .line)) (sym (at-read .read-line .ensures) ∙ at-step .step .given .1) in
+    let at-said = at-step .before .before in
+    let a = at-said .before .before .before .args in
+    let d = line-is (now (a .t)) (now (a .line)) (sym (at-said .said .ensures) ∙ at-step .step .given .1) in
     (at-act .act .ensures .0 ∙ d .0, at-act .act .ensures .1 ∙ d .1)
+
+enum-told-2 : tie.Need-enum-told-2
+enum-told-2 c = search needs
+
+returns-4 : tie.Need-returns-4
+returns-4 c =
+    let at-said = c .before .before in
+    let a = at-said .before .before .before .args in
+    line-is (now (a .t)) (now (a .line)) (sym (at-said .said .ensures) ∙ c .enum-told2 .given .1)
 
 returns-3 : tie.Need-returns-3
 returns-3 c =
     let at-number = c .before in
-    let at-read = at-number .before .before in
-    let a = at-read .before .before .before .args in
-    line-is (now (a .t)) (now (a .line)) (sym (at-read .read-line .ensures) ∙ at-number .number .given .1)
+    let at-said = at-number .before .before in
+    let a = at-said .before .before .before .args in
+    line-is (now (a .t)) (now (a .line)) (sym (at-said .said .ensures) ∙ at-number .number .given .1)
 
 pub apply-line-spec : {M : Type 1} → statement M
 apply-line-spec =
     tie.close
     (tie.spec
-    read-line-requires
+    said-requires
     enum-told
     enum-known-step
     act-requires
     enum-known-number
+    enum-told-2
     returns
     same-length
     returns-2
-    returns-3)
+    returns-3
+    returns-4)
