@@ -85,7 +85,7 @@ macro_rules! api {
 
 fn apis() -> [Api; 3] {
     [
-        api!(pollencart_check pollencart_kind pollencart_field pollencart_frame_start pollencart_frame_write pollencart_frame_session pollencart_frame_purge pollencart_write pollencart_session pollencart_purge pollencart_count pollencart_apply_line pollencart_apply_lines pollencart_replay),
+        api!(pollencart_check pollencart_kind pollencart_field pollencart_frame_start pollencart_frame_write pollencart_frame_session pollencart_frame_purge pollencart_write pollencart_session pollencart_purge pollencart_count pollencart_line pollencart_lines pollencart_replay),
         api!(plain_check plain_kind plain_field plain_frame_start plain_frame_write plain_frame_session plain_frame_purge plain_write plain_session plain_purge plain_count plain_apply_line plain_apply_lines plain_replay),
         api!(clang_check clang_kind clang_field clang_frame_start clang_frame_write clang_frame_session clang_frame_purge clang_write clang_session clang_purge clang_count clang_apply_line clang_apply_lines clang_replay),
     ]

@@ -38,7 +38,7 @@ static void stands(const char *about) {
 static void line(const char *about, const char *s, size_t words, uint32_t number, uint32_t first, uint32_t second) {
     uint32_t *w = lend(), x = UNSET, y = UNSET;
     const uint8_t *at = text(s, strlen(s));
-    uint32_t r = pollencart_apply_line(w, words, at, strlen(s), &x, &y);
+    uint32_t r = pollencart_line(w, words, at, strlen(s), &x, &y);
     expect(r == number, about, "the number");
     expect(x == first && y == second, about, "the counts");
     met[0][r < 18 ? r : 0]++;
@@ -50,7 +50,7 @@ static void lines_of(const char *about, const char *s, size_t len, size_t words,
     uint32_t *w = lend();
     size_t applied = UNSET, refused = UNSET, stopped = UNSET;
     const uint8_t *at = text(s, len);
-    uint32_t r = pollencart_apply_lines(w, words, at, len, &applied, &refused, &stopped);
+    uint32_t r = pollencart_lines(w, words, at, len, &applied, &refused, &stopped);
     expect(r == number, about, "the number");
     expect(applied == steps && refused == bad, about, "the steps and those refused");
     expect(stopped == place, about, "the place");
@@ -87,17 +87,17 @@ static void example(void) {
     fresh();
     uint32_t *w = lend(), x = UNSET, y = UNSET;
     const uint8_t *at = text(WRITE_05, 24);
-    expect(pollencart_apply_line(w, WORDS, at, 24, &x, &y) == 0 && x == 0 && y == 0, "a write's line", "the answer");
+    expect(pollencart_line(w, WORDS, at, 24, &x, &y) == 0 && x == 0 && y == 0, "a write's line", "the answer");
     after_write(), stands("a write's line");
     w = lend(), x = y = UNSET, at = text(SESSION_6_4, 26);
-    expect(pollencart_apply_line(w, WORDS, at, 26, &x, &y) == 0 && x == 0 && y == 1, "a session's line", "the answer");
+    expect(pollencart_line(w, WORDS, at, 26, &x, &y) == 0 && x == 0 && y == 1, "a session's line", "the answer");
     after_session(), stands("a session's line");
     w = lend(), x = y = UNSET, at = text(PURGE_0, 6);
-    expect(pollencart_apply_line(w, WORDS, at, 6, &x, &y) == 0 && x == 0 && y == 0, "a purge's line", "the answer");
+    expect(pollencart_line(w, WORDS, at, 6, &x, &y) == 0 && x == 0 && y == 0, "a purge's line", "the answer");
     stands("a purge's line");
     for (uint32_t q = 0; q < 2; q++) set(acknowledgement_at(0, q), 5);
     w = lend(), x = y = UNSET, at = text(PURGE_0, 6);
-    expect(pollencart_apply_line(w, WORDS, at, 6, &x, &y) == 0 && x == 1 && y == 0, "a purge of one", "the answer");
+    expect(pollencart_line(w, WORDS, at, 6, &x, &y) == 0 && x == 1 && y == 0, "a purge of one", "the answer");
     set(held_at(0), 0);
     for (uint32_t word = 1; word < RECORD; word++) set(record_at(0, 0, word), 0);
     stands("a purge of one");
@@ -106,7 +106,7 @@ static void example(void) {
     static const char all[] = WRITE_05 "\n" WRITE_05 "\n" SESSION_6_4 "\n";
     size_t applied = UNSET, refused = UNSET, stopped = UNSET;
     w = lend(), at = text(all, sizeof all - 1);
-    expect(pollencart_apply_lines(w, WORDS, at, sizeof all - 1, &applied, &refused, &stopped) == 0, "three lines", "the number");
+    expect(pollencart_lines(w, WORDS, at, sizeof all - 1, &applied, &refused, &stopped) == 0, "three lines", "the number");
     expect(applied == 3 && refused == 1 && stopped == sizeof all - 1, "three lines", "what is stored");
     after_write(), after_session(), stands("three lines");
 }
@@ -172,7 +172,7 @@ static void going_on(void) {
     fresh();
     uint32_t *w = lend();
     const uint8_t *s = text(all, len);
-    while ((number = pollencart_apply_lines(w, WORDS, s + at, len - at, &applied, &refused, &stopped)) != 0) {
+    while ((number = pollencart_lines(w, WORDS, s + at, len - at, &applied, &refused, &stopped)) != 0) {
         expect(calls < 4 && number == numbers[calls], "going on", "the number");
         calls++, steps += applied, bad += refused;
         const uint8_t *lf = memchr(s + at + stopped, '\n', len - at - stopped);
@@ -189,7 +189,7 @@ int main(void) {
     refusals();
     places();
     going_on();
-    for (size_t i = 0; i < LENGTH(one); i++) expect(met[0][one[i]] > 0, "apply_line", "a number that was not met");
-    for (size_t i = 0; i < LENGTH(many); i++) expect(met[1][many[i]] > 0, "apply_lines", "a number that was not met");
+    for (size_t i = 0; i < LENGTH(one); i++) expect(met[0][one[i]] > 0, "line", "a number that was not met");
+    for (size_t i = 0; i < LENGTH(many); i++) expect(met[1][many[i]] > 0, "lines", "a number that was not met");
     return told("lines");
 }

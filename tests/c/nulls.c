@@ -75,21 +75,21 @@ static void lines(uint8_t *bytes, uint32_t *words) {
     uint32_t first = UNSET, second = UNSET;
     size_t applied = UNSET, refused = UNSET, stopped = UNSET;
     expect("fresh", pollencart_fresh(table, POLLENCART_TABLE, 2), 0);
-    expect("apply_line of no line", pollencart_apply_line(table, POLLENCART_TABLE, bytes, 0, &first, &second), POLLENCART_SHAPE);
+    expect("line of no line", pollencart_line(table, POLLENCART_TABLE, bytes, 0, &first, &second), POLLENCART_SHAPE);
     expect("its counts", first == 0 && second == 0, 1);
     first = second = UNSET;
-    expect("apply_line, no table", pollencart_apply_line(words, 0, write, 24, &first, &second), POLLENCART_UNSOUND);
+    expect("line, no table", pollencart_line(words, 0, write, 24, &first, &second), POLLENCART_UNSOUND);
     expect("its counts", first == 0 && second == 0, 1);
     first = second = UNSET;
-    expect("apply_line of nothing", pollencart_apply_line(words, 0, bytes, 0, &first, &second), POLLENCART_SHAPE);
+    expect("line of nothing", pollencart_line(words, 0, bytes, 0, &first, &second), POLLENCART_SHAPE);
     expect("its counts", first == 0 && second == 0, 1);
-    expect("apply_lines of no lines", pollencart_apply_lines(table, POLLENCART_TABLE, bytes, 0, &applied, &refused, &stopped), 0);
+    expect("lines of no lines", pollencart_lines(table, POLLENCART_TABLE, bytes, 0, &applied, &refused, &stopped), 0);
     expect("what is stored", applied == 0 && refused == 0 && stopped == 0, 1);
     applied = refused = stopped = UNSET;
-    expect("apply_lines, no table", pollencart_apply_lines(words, 0, write, 25, &applied, &refused, &stopped), POLLENCART_UNSOUND);
+    expect("lines, no table", pollencart_lines(words, 0, write, 25, &applied, &refused, &stopped), POLLENCART_UNSOUND);
     expect("what is stored", applied == 0 && refused == 0 && stopped == 0, 1);
     applied = refused = stopped = UNSET;
-    expect("apply_lines of nothing", pollencart_apply_lines(words, 0, bytes, 0, &applied, &refused, &stopped), POLLENCART_UNSOUND);
+    expect("lines of nothing", pollencart_lines(words, 0, bytes, 0, &applied, &refused, &stopped), POLLENCART_UNSOUND);
     expect("what is stored", applied == 0 && refused == 0 && stopped == 0, 1);
     expect("the table", pollencart_held(table, POLLENCART_TABLE, 0), 0);
 }

@@ -82,10 +82,10 @@ static void text(uint32_t *table, size_t length, uint32_t op)
     uint8_t *at = lend(&text_part, sizeof made, size, (int)(op & 1));
     memcpy(at, made, size);
     if (op & 32) {
-        same(pollencart_apply_line(table, length, at, size, w, w + 1) == plain_apply_line(plain, length, made, size, w + 2, w + 3), "apply_line");
+        same(pollencart_line(table, length, at, size, w, w + 1) == plain_apply_line(plain, length, made, size, w + 2, w + 3), "apply_line");
         same(w[0] == w[2] && w[1] == w[3], "what a line counts");
     } else {
-        same(pollencart_apply_lines(table, length, at, size, s, s + 1, s + 2) == plain_apply_lines(plain, length, made, size, s + 3, s + 4, s + 5), "apply_lines");
+        same(pollencart_lines(table, length, at, size, s, s + 1, s + 2) == plain_apply_lines(plain, length, made, size, s + 3, s + 4, s + 5), "apply_lines");
         same(s[0] == s[3] && s[1] == s[4] && s[2] == s[5], "how far lines came");
     }
     same(!memcmp(at, made, size), "the lines' bytes");

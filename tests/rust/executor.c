@@ -126,10 +126,10 @@ static uint32_t *apply(uint32_t op, const uint32_t *bytes, uint32_t size, uint32
     uint32_t first = 0xFFFFFFFF, second = 0xFFFFFFFF;
     size_t applied = (size_t)-1, refused = (size_t)-1, stopped = (size_t)-1;
     if (op == APPLY_LINE) {
-        *out++ = pollencart_apply_line(table, length, at, size, &first, &second);
+        *out++ = pollencart_line(table, length, at, size, &first, &second);
         *out++ = first, *out++ = second;
     } else {
-        *out++ = pollencart_apply_lines(table, length, at, size, &applied, &refused, &stopped);
+        *out++ = pollencart_lines(table, length, at, size, &applied, &refused, &stopped);
         *out++ = (uint32_t)applied, *out++ = (uint32_t)refused, *out++ = (uint32_t)stopped;
         *out++ = (uint32_t)((applied | refused | stopped) >> 32);
     }

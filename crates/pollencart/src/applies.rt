@@ -7,7 +7,7 @@ use answers::second_of;
 
 // Reads a line, without its LF, and applies its step; what a session carried to each side or a purge removed is stored.
 #[no_mangle]
-pub extern "C" fn pollencart_apply_line(
+pub extern "C" fn pollencart_line(
     table: &mut [u32],
     line: &[u8],
     first: &mut u32,
@@ -23,7 +23,7 @@ pub extern "C" fn pollencart_apply_line(
 
 // Reads lines, each ended by an LF, and applies their steps, up to the first refused line; how far they came is stored.
 #[no_mangle]
-pub extern "C" fn pollencart_apply_lines(
+pub extern "C" fn pollencart_lines(
     table: &mut [u32],
     lines: &[u8],
     applied: &mut usize,

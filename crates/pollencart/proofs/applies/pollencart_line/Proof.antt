@@ -1,8 +1,8 @@
--- `pollencart_apply_line` meets its contract: the values of the line's reply, and the words that it leaves.
+-- `pollencart_line` meets its contract: the values of the line's reply, and the words that it leaves.
 use Rattle.answers.proofs.ValueLaws.{all-told}
 use borrow.Author.Needs.{needs}
-use Rattle.pollencart.proofs.applies.pollencart_apply_line.Statement.{statement}
-use Rattle.pollencart.proofs.applies.pollencart_apply_line.Tie as tie
+use Rattle.pollencart.proofs.applies.pollencart_line.Statement.{statement}
+use Rattle.pollencart.proofs.applies.pollencart_line.Tie as tie
 
 apply-line-requires : tie.Need-apply-line-requires
 apply-line-requires c κs = search needs
