@@ -1,7 +1,7 @@
 // The journal reader on a slice and a place: the line there, what it says, its part and the place after it.
 // Document 01, "Frames and journals".
 ghost use mathlib.Core.Path.{_≡_};
-ghost use Rattle.meaning.specs.Journals.{lineAt, nextAt, inTurn};
+ghost use Rattle.meaning.specs.Journals.{lineAt, nextIn, nextAt, inTurn};
 ghost use Rattle.journal.specs.Found.{foundAt};
 ghost use Rattle.journal.specs.Parts.{Part, partAt, positionAt};
 use meaning::Line;
@@ -68,18 +68,25 @@ fn in_turn(first: bool, next: usize, said: Line) -> Next
     }
 }
 
-// What the reader finds at a place, told the line number: "the line read at place 0 is the first, and no other is".
-pub fn next_at(s: &[u8], at: usize, line: usize) -> Next
-    ensures { λ r. ⌜ r ≡ nextAt (now (s .entry)) at line ⌝ }
+// What the reader finds at a place, told the line number and whether the line there is the first.
+pub fn next_in(s: &[u8], at: usize, line: usize, first: bool) -> Next
+    ensures { λ r. ⌜ r ≡ nextIn first (now (s .entry)) at line ⌝ }
 {
     match find(s, at) {
         Found::Over => Next::End,
         Found::Unended => Next::Refused { number: 14 },
         Found::Line { end } => {
             let said = reading::read_line(&s[at..end], line);
-            in_turn(at == 0, end + 1, said)
+            in_turn(first, end + 1, said)
         }
     }
+}
+
+// In a journal "the line read at place 0 is the first, and no other is".
+pub fn next_at(s: &[u8], at: usize, line: usize) -> Next
+    ensures { λ r. ⌜ r ≡ nextAt (now (s .entry)) at line ⌝ }
+{
+    next_in(s, at, line, at == 0)
 }
 
 // "hands back each line ..; with a refusal the part is empty"

@@ -1,6 +1,6 @@
 -- Laws of a run: what a step counts and keeps, and the outcome of what is left of a journal, by the line that comes next.
 use mathlib.Core.Path.{_≡_, refl, sym, ap, _∙_}
-use mathlib.Core.Bool.{true}
+use mathlib.Core.Bool.{true, false}
 use mathlib.Core.List.{List, [], _∷_}
 use Prim.Native.Nat.{ℕ, zero, suc, _+_, _-_, _≤_, _<_}
 use native.Mathlib.Omega.{arith}
@@ -19,7 +19,7 @@ use Rattle.meaning.specs.declared.Outcome.{Outcome}
 use Rattle.meaning.specs.declared.Outcome.the-variants.{Bad, Done}
 use Rattle.meaning.specs.Steps.{refusal, reported, replied, reply, after}
 use Rattle.meaning.specs.Table.{tableWords, nodesMost, countRight, fresh, madeFresh, Sound}
-use Rattle.meaning.specs.Journals.{Steps, Journal, none, broken, step∷, oneIf, nextAt, stepsFrom, journal}
+use Rattle.meaning.specs.Journals.{Steps, Journal, none, broken, step∷, oneIf, nextIn, nextAt, stepsFrom, journal}
 use Rattle.meaning.specs.Journals.{afterAll, refusedOf, outcomeOf, replayed, startedFrom, replayAfter}
 use Rattle.meaning.proofs.Action as A
 use Rattle.meaning.proofs.Action.Laws as A′
@@ -55,17 +55,17 @@ refused-counts t x = go (refusal t x)
     go (suc k) = refl
 
 -- the outcome and the table of what is left: at the end, at a refused line, and after one step more
-rest-end : (n k r : ℕ) (t : List ℕ) → restOutcome n k r t none ≡ Done n k r
+rest-end : (n k r : ℕ) (t : List ℕ) (at : ℕ) → restOutcome n k r t (none at) ≡ Done n k r
 unfolding restOutcome refusedOf
-rest-end n k r t =
+rest-end n k r t at =
     let a : k + 0 ≡ k = omega arith in
     let b : r + 0 ≡ r = omega arith in
     rw (a, b)
 
-rest-bad : (n k r : ℕ) (t : List ℕ) (line j : ℕ) → 0 < j → restOutcome n k r t (broken line j) ≡ Bad line j
+rest-bad : (n k r : ℕ) (t : List ℕ) (at line j : ℕ) → 0 < j → restOutcome n k r t (broken at line j) ≡ Bad line j
 unfolding restOutcome
-rest-bad n k r t line zero h = absurd (omega arith)
-rest-bad n k r t line (suc j) h = refl
+rest-bad n k r t at line zero h = absurd (omega arith)
+rest-bad n k r t at line (suc j) h = refl
 
 rest-step : (n k r : ℕ) (t : List ℕ) (x : Step) (y : Steps)
     → restOutcome n k r t (step∷ x y) ≡ restOutcome n (k + 1) (r + oneIf (refusal t (x .action))) (after t (x .action)) y
@@ -121,18 +121,18 @@ module _ {s : List ℕ} {from n : ℕ} {t₀ t : List ℕ} {at line refused : �
         table = sym (x .table ∙ ap (λ (z : Steps). afterAll t (z .steps)) e);
       }
 
-  pub reached-bad : {j : ℕ} → 0 < j → stepsFrom (suc (length s + 2 - (line + 1))) s at line ≡ broken line j
+  pub reached-bad : {j : ℕ} → 0 < j → stepsFrom (suc (length s + 2 - (line + 1))) s at line ≡ broken at line j
       → RanFrom s from n t₀ (Bad line j) t
   reached-bad {j} h e =
-      let w = whole (broken line j) (left-is e) in
-      record { outcome = sym (rest-bad n (line - 2) refused t line j h) ∙ w .outcome; table = sym (after-none t) ∙ w .table }
+      let w = whole (broken at line j) (left-is e) in
+      record { outcome = sym (rest-bad n (line - 2) refused t at line j h) ∙ w .outcome; table = sym (after-none t) ∙ w .table }
 
-  pub reached-end : nextAt s at line ≡ End → RanFrom s from n t₀ (Done n (line - 2) refused) t
+  pub reached-end : nextIn false s at line ≡ End → RanFrom s from n t₀ (Done n (line - 2) refused) t
   reached-end e =
-      let w = whole none (steps-end (length s + 2 - line) s at line e) in
-      record { outcome = sym (rest-end n (line - 2) refused t) ∙ w .outcome; table = sym (after-none t) ∙ w .table }
+      let w = whole (none at) (steps-end (length s + 2 - line) s at line e) in
+      record { outcome = sym (rest-end n (line - 2) refused t at) ∙ w .outcome; table = sym (after-none t) ∙ w .table }
 
-  pub reached-step : {y : Step} {next k : ℕ} {t′ : List ℕ} → nextAt s at line ≡ ActAt y next → at < next → next ≤ length s → Stepped t (y .action) k t′
+  pub reached-step : {y : Step} {next k : ℕ} {t′ : List ℕ} → nextIn false s at line ≡ ActAt y next → at < next → next ≤ length s → Stepped t (y .action) k t′
       → Reached s from n t₀ t′ next (line + 1) (refused + k)
   reached-step {y} {next} {k} {t′} e low high d =
       let w = whole (step∷ y (stepsFrom (length s + 2 - (line + 1)) s next (line + 1))) (left-is (steps-act (length s + 2 - (line + 1)) s at line e)) in
@@ -182,15 +182,15 @@ pub begin-is : (s : List ℕ) {n next : ℕ} → nextAt s 0 1 ≡ BeginAt n next
 unfolding journal
 begin-is s e = rw (e, journal)
 
-pub act-is : (s : List ℕ) {x : Step} {next : ℕ} → nextAt s 0 1 ≡ ActAt x next → journal s ≡ record { n = 0; rest = broken 1 15 }
+pub act-is : (s : List ℕ) {x : Step} {next : ℕ} → nextAt s 0 1 ≡ ActAt x next → journal s ≡ record { n = 0; rest = broken 0 1 15 }
 unfolding journal
 act-is s e = rw (e, journal)
 
-pub refused-is : (s : List ℕ) {k : ℕ} → nextAt s 0 1 ≡ RefusedAt k → journal s ≡ record { n = 0; rest = broken 1 k }
+pub refused-is : (s : List ℕ) {k : ℕ} → nextAt s 0 1 ≡ RefusedAt k → journal s ≡ record { n = 0; rest = broken 0 1 k }
 unfolding journal
 refused-is s e = rw (e, journal)
 
-pub end-is : (s : List ℕ) → nextAt s 0 1 ≡ End → journal s ≡ record { n = 0; rest = broken 1 15 }
+pub end-is : (s : List ℕ) → nextAt s 0 1 ≡ End → journal s ≡ record { n = 0; rest = broken 0 1 15 }
 unfolding journal
 end-is s e = rw (e, journal)
 
@@ -219,7 +219,7 @@ run-begun t s {n} {next} l e c x =
           sym (ap (λ (y : Journal). afterAll (startedFrom (y .n) t) (y .rest .steps)) j) ∙ w .1;
     }
 
-pub run-broken : (t s : List ℕ) {k : ℕ} → length t ≡ tableWords → journal s ≡ record { n = 0; rest = broken 1 k } → 0 < k → Ran s t (Bad 1 k) t
+pub run-broken : (t s : List ℕ) {k : ℕ} → length t ≡ tableWords → journal s ≡ record { n = 0; rest = broken 0 1 k } → 0 < k → Ran s t (Bad 1 k) t
 unfolding replayed replayAfter
 run-broken t s {k} l j h =
     let w = run-right t s l in
@@ -228,6 +228,6 @@ run-broken t s {k} l j h =
       table = sym (after-none t) ∙ sym (ap (λ (x : Journal). afterAll (startedFrom (x .n) t) (x .rest .steps)) j) ∙ w .1;
     }
   where
-    bad : (i : ℕ) → 0 < i → Bad 1 i ≡ outcomeOf i (record { n = 0; rest = broken 1 i })
+    bad : (i : ℕ) → 0 < i → Bad 1 i ≡ outcomeOf i (record { n = 0; rest = broken 0 1 i })
     bad zero z = absurd (omega arith)
     bad (suc i) z = refl

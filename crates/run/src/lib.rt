@@ -48,7 +48,7 @@ fn steps(s: &[u8], from: usize, n: u32, t: &mut [u32]) -> Outcome
     let mut line = 2;
     let mut refused = 0;
     loop {
-        match journal::next_at(s, at, line) {
+        match journal::next_in(s, at, line, false) {
             Next::Begin { n: _, next: _ } => {
                 return Outcome::Bad { line, number: 15 };
             }

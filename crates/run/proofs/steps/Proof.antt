@@ -1,5 +1,6 @@
 -- `steps`: at every line, what is left of the journal gives the outcome and the table of the whole (`Reached`). Each line passes at least its LF.
 use mathlib.Core.Path.{sym, _∙_}
+use mathlib.Core.Bool.{false}
 use Prim.Native.Nat.{_-_}
 use native.Mathlib.Omega.{arith}
 use lib.ListN.{length}
@@ -22,8 +23,8 @@ loop-holds c =
     let s = c .before .before in
     reached-start (now (s .args .s)) (s .args .from) (s .args .n) (now (s .args .t)) (s .pre .0) (s .pre .1) (s .pre .2)
 
-next-at-requires : tie.Need-next-at-requires Inv-loop μ-loop
-next-at-requires c κs = search needs
+next-in-requires : tie.Need-next-in-requires Inv-loop μ-loop
+next-in-requires c κs = search needs
 
 enum-told : tie.Need-enum-told Inv-loop μ-loop
 enum-told c = search needs
@@ -37,7 +38,7 @@ returns c =
     let at-loop = at-next .before in
     let s = at-loop .before .before .before in
     let l = at-loop .loop in
-    let e = sym (at-next .next-at .ensures) ∙ c .enum-told .given .1 in
+    let e = sym (at-next .next-in .ensures) ∙ c .enum-told .given .1 in
     reached-bad (l .inv) (omega arith) (steps-begin _ (now (s .args .s)) (l .at) (l .line) e)
 
 enum-known-x : tie.Need-enum-known-x Inv-loop μ-loop
@@ -53,7 +54,7 @@ add-refused c =
     let at-loop = at-next .before in
     let s = at-loop .before .before .before in
     let l = at-loop .loop in
-    let p = acted (now (s .args .s)) (l .at) (l .line) (sym (at-next .next-at .ensures) ∙ at-x .x .given .1) in
+    let p = acted false (now (s .args .s)) (l .at) (l .line) (sym (at-next .next-in .ensures) ∙ at-x .x .given .1) in
     omega arith
 
 add-line : tie.Need-add-line Inv-loop μ-loop
@@ -63,7 +64,7 @@ add-line c =
     let at-loop = at-next .before in
     let s = at-loop .before .before .before in
     let l = at-loop .loop in
-    let p = acted (now (s .args .s)) (l .at) (l .line) (sym (at-next .next-at .ensures) ∙ at-x .x .given .1) in
+    let p = acted false (now (s .args .s)) (l .at) (l .line) (sym (at-next .next-in .ensures) ∙ at-x .x .given .1) in
     omega arith
 
 loop-less : tie.Need-loop-less Inv-loop μ-loop
@@ -73,7 +74,7 @@ loop-less c =
     let at-loop = at-next .before in
     let s = at-loop .before .before .before in
     let l = at-loop .loop in
-    let p = acted (now (s .args .s)) (l .at) (l .line) (sym (at-next .next-at .ensures) ∙ at-x .x .given .1) in
+    let p = acted false (now (s .args .s)) (l .at) (l .line) (sym (at-next .next-in .ensures) ∙ at-x .x .given .1) in
     omega arith
 
 loop-again : tie.Need-loop-again Inv-loop μ-loop
@@ -84,8 +85,8 @@ loop-again c =
     let at-loop = at-next .before in
     let s = at-loop .before .before .before in
     let l = at-loop .loop in
-    let e = sym (at-next .next-at .ensures) ∙ at-x .x .given .1 in
-    let p = acted (now (s .args .s)) (l .at) (l .line) e in
+    let e = sym (at-next .next-in .ensures) ∙ at-x .x .given .1 in
+    let p = acted false (now (s .args .s)) (l .at) (l .line) e in
     reached-step (l .inv) e (p .start) (p .within) (at-step .step .ensures)
 
 enum-known-number : tie.Need-enum-known-number Inv-loop μ-loop
@@ -101,8 +102,8 @@ returns-2 c =
     let at-loop = at-next .before in
     let t = now (at-loop .before .before .before .args .s) in
     let l = at-loop .loop in
-    let e = sym (at-next .next-at .ensures) ∙ at-number .number .given .1 in
-    reached-bad (l .inv) (refused-numbered t (l .at) (l .line) _ e) (steps-refused _ t (l .at) (l .line) e)
+    let e = sym (at-next .next-in .ensures) ∙ at-number .number .given .1 in
+    reached-bad (l .inv) (refused-numbered false t (l .at) (l .line) _ e) (steps-refused _ t (l .at) (l .line) e)
 
 enum-told-2 : tie.Need-enum-told-2 Inv-loop μ-loop
 enum-told-2 c = search needs
@@ -116,7 +117,7 @@ same-length-3 c = omega arith
 returns-3 : tie.Need-returns-3 Inv-loop μ-loop
 returns-3 c =
     let l = c .before .before .before .loop in
-    reached-end (l .inv) (sym (c .before .before .next-at .ensures) ∙ c .enum-told2 .given .1)
+    reached-end (l .inv) (sym (c .before .before .next-in .ensures) ∙ c .enum-told2 .given .1)
 
 pub steps-spec : {M : Type 1} → statement M
 steps-spec =
@@ -125,7 +126,7 @@ steps-spec =
     Inv-loop
     μ-loop
     loop-holds
-    next-at-requires
+    next-in-requires
     enum-told
     same-length
     returns

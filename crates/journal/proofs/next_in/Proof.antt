@@ -1,11 +1,11 @@
--- `next_at` goes by what the finder found, in the order of the refusals.
+-- `next_in` goes by what the finder found, in the order of the refusals.
 use mathlib.Core.Path.{sym, _∙_}
 use native.Mathlib.Omega.{arith}
 use denote.Ref.{now}
 use Rattle.journal.proofs.Finding.{line-facts, next-over, next-unended, next-line}
 use borrow.Author.Needs.{needs}
-use Rattle.journal.proofs.next_at.Statement.{statement}
-use Rattle.journal.proofs.next_at.Tie as tie
+use Rattle.journal.proofs.next_in.Statement.{statement}
+use Rattle.journal.proofs.next_in.Tie as tie
 
 find-requires : tie.Need-find-requires
 find-requires c κs = search needs
@@ -61,13 +61,13 @@ returns : tie.Need-returns
 returns c =
     let at-find = c .before .before in
     let a = at-find .before .before .args in
-    next-over (now (a .s)) (a .at) (a .line) (sym (at-find .find .ensures) ∙ c .enum-told .given .1)
+    next-over (a .first) (now (a .s)) (a .at) (a .line) (sym (at-find .find .ensures) ∙ c .enum-told .given .1)
 
 returns-2 : tie.Need-returns-2
 returns-2 c =
     let at-find = c .before .before in
     let a = at-find .before .before .args in
-    next-unended (now (a .s)) (a .at) (a .line) (sym (at-find .find .ensures) ∙ c .enum-told2 .given .1)
+    next-unended (a .first) (now (a .s)) (a .at) (a .line) (sym (at-find .find .ensures) ∙ c .enum-told2 .given .1)
 
 returns-3 : tie.Need-returns-3
 returns-3 c =
@@ -75,10 +75,10 @@ returns-3 c =
     let at-find = at-end .before .before in
     let a = at-find .before .before .args in
     let e = sym (at-find .find .ensures) ∙ at-end .end .given .1 in
-    c .in-turn .ensures ∙ rw (c .before .read-line .ensures) (next-line (now (a .s)) (a .at) _ (a .line) e)
+    c .in-turn .ensures ∙ rw (c .before .read-line .ensures) (next-line (a .first) (now (a .s)) (a .at) _ (a .line) e)
 
-pub next-at-spec : {M : Type 1} → statement M
-next-at-spec =
+pub next-in-spec : {M : Type 1} → statement M
+next-in-spec =
     tie.close
     (tie.spec
     find-requires
