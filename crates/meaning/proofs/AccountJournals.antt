@@ -5,7 +5,7 @@ use mathlib.Core.Logic.{_⊎_, inl, inr}
 use mathlib.Core.List.{List}
 use Prim.Native.Nat.{ℕ, zero, suc, _<_}
 use native.Mathlib.Omega.{arith}
-use lib.ListN.{length, getD, drop}
+use lib.ListN.{length, getD}
 use lib.Dec.{leb, eqb}
 use borrow.Author.Tests.{leb-true, not-false}
 use Rattle.meaning.specs.declared.Line.{Line}
@@ -64,7 +64,7 @@ next-right : (first : Bool) (s : List ℕ) (at line : ℕ) → nextRight (nextIn
 unfolding nextIn
 next-right first s at line =
     cond-right (leb (length s) at) End _ refl
-    (cond-right (unended s at) (RefusedAt 14 (length (drop at s))) _ refl
+    (cond-right (unended s at) (RefusedAt 14 _) _ refl
     (inTurn-right first (placeAfter s at) (readLine line (lineAt s at)) (line-right line (lineAt s at))))
 
 pub begin-right : (first : Bool) (s : List ℕ) (at line : ℕ) {n next : ℕ} → nextIn first s at line ≡ BeginAt n next → countRight n ≡ true

@@ -231,15 +231,13 @@ stray-there (c ∷ cs) h = go (ltb (digitValue c) 16) refl h (stray-there cs)
     go true e p ih = ih p
     go false e p ih = ltb-false (digitValue c) 16 e
 
--- a digit passed, and the first that is none, by place: what a loop over the line finds
-pub stray-here : (l : List ℕ) (i : ℕ) → i < length l → allDigits (take i l) ≡ true → 16 ≤ digitValue (getD l i 0) → strayAt l ≡ i
-unfolding allDigits strayAt
+-- what a loop over the line finds, by place; and whether all are digits, by what it found
+pub stray-here : (l : List ℕ) (i : ℕ) → i < length l → ((j : ℕ) → j < i → digitValue (getD l j 0) < 16) → 16 ≤ digitValue (getD l i 0) → strayAt l ≡ i
+unfolding strayAt
 stray-here [] i h d p = absurd (omega arith)
 stray-here (c ∷ cs) zero h d p = cc (le-ltb (digitValue c) 16 p)
 stray-here (c ∷ cs) (suc i) h d p =
-    let here = and-left (ltb (digitValue c) 16) (allDigits (take i cs)) d in
-    let later = and-right (ltb (digitValue c) 16) (allDigits (take i cs)) d in
-    cc (here, stray-here cs i (omega arith) later p)
+    cc (lt-ltb (digitValue c) 16 (d 0 (omega arith)), stray-here cs i (omega arith) (λ j q. d (suc j) (omega arith)) p)
 
 pub stray-none : (l : List ℕ) → allDigits l ≡ true → strayAt l ≡ length l
 unfolding allDigits strayAt
@@ -247,6 +245,20 @@ stray-none [] d = refl
 stray-none (c ∷ cs) d =
     let here = and-left (ltb (digitValue c) 16) (allDigits cs) d in
     cc (here, stray-none cs (and-right (ltb (digitValue c) 16) (allDigits cs) d))
+
+pub stray-some : (l : List ℕ) → strayAt l < length l → allDigits l ≡ false
+stray-some l h = go (allDigits l) refl
+  where
+    go : (b : Bool) → allDigits l ≡ b → b ≡ false
+    go true d = absurd (omega (arith, stray-none l d))
+    go false d = refl
+
+pub stray-past : (l : List ℕ) → length l ≤ strayAt l → allDigits l ≡ true
+stray-past l h = go (allDigits l) refl
+  where
+    go : (b : Bool) → allDigits l ≡ b → b ≡ true
+    go true d = refl
+    go false d = absurd (omega (arith, stray-within l d))
 
 -- the number and the place of a line's refusal
 abbrev pub Refuses : List ℕ → ℕ → ℕ → Type 0

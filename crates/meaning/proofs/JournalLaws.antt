@@ -128,13 +128,13 @@ turn-numbered false next (Refused k p) h = h
 
 next-numbered : (first : Bool) (s : List ℕ) (at line : ℕ) → nextNumbered (nextIn first s at line) ≡ true
 unfolding nextIn readLine
-next-numbered first s at line = go (leb (length s) at) (unended s at)
+next-numbered first s at line = go (leb (length s) at) (unended s at) _
   where
-    go : (a b : Bool) →
-        nextNumbered (cond a End (cond b (RefusedAt 14 (length (drop at s))) (inTurn first (placeAfter s at) (readLine line (lineAt s at))))) ≡ true
-    go true b = refl
-    go false true = refl
-    go false false =
+    go : (a b : Bool) (p : ℕ) →
+        nextNumbered (cond a End (cond b (RefusedAt 14 p) (inTurn first (placeAfter s at) (readLine line (lineAt s at))))) ≡ true
+    go true b p = refl
+    go false true p = refl
+    go false false p =
         turn-numbered first (placeAfter s at) (readLine line (lineAt s at))
         (meant-numbered line (bytesOf (lineAt s at)) (eqb (lineKind (bytesOf (lineAt s at))) 0) (lineRefusal (lineAt s at)) (linePlace (lineAt s at)))
 

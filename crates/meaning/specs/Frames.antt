@@ -237,6 +237,10 @@ fieldTests l =
 unfoldable pub lineTests : List ℕ → List Test
 lineTests l = shapeTests journalKinds l (fieldTests l)
 
+-- what a list of tests gives, as number and place
+abbrev pub faultOf : List Test → Fault
+faultOf xs = record { number = first xs; place = firstPlace xs }
+
 -- a line's refusal and its place, 0 and 0 for none
 unfoldable pub lineRefusal : List ℕ → ℕ
 lineRefusal l = first (lineTests l)
