@@ -18,11 +18,15 @@ use meaning::Fault;
 // above 3"; "the sum is not zero"; "a start's n is not 2 to 16".
 const STRAY: u32 = 12;
 
-const UNEVEN: u32 = 18;
+const ODD: u32 = 18;
+
+const NONE: u32 = 18;
 
 const UNKNOWN: u32 = 11;
 
-const LENGTH: u32 = 19;
+const SHORT: u32 = 19;
+
+const SURPLUS: u32 = 19;
 
 const OUTCOME: u32 = 20;
 
@@ -30,8 +34,12 @@ const SUM: u32 = 13;
 
 const START: u32 = 15;
 
-// The outcome byte's first digit.
+// The places that no line changes: the kind's first digit, the outcome's, and that of a wrong start, "for 15 place 0".
+const KIND_AT: usize = 0;
+
 const OUTCOME_AT: usize = 22;
+
+const START_AT: usize = 0;
 
 // The refusal of a line that has its kind's length, told the place of its check byte; two zeros for none.
 fn late(above: bool, sums: bool, wrong: bool, check: usize) -> Fault
@@ -52,7 +60,7 @@ fn late(above: bool, sums: bool, wrong: bool, check: usize) -> Fault
     if wrong {
         return Fault {
             number: START,
-            place: 0,
+            place: START_AT,
         };
     }
     Fault {
@@ -71,18 +79,18 @@ fn spelled(s: &[u8]) -> Fault
     if due == 0 {
         return Fault {
             number: UNKNOWN,
-            place: 0,
+            place: KIND_AT,
         };
     }
     if s.len() < due {
         return Fault {
-            number: LENGTH,
+            number: SHORT,
             place: s.len(),
         };
     }
     if due < s.len() {
         return Fault {
-            number: LENGTH,
+            number: SURPLUS,
             place: due,
         };
     }
@@ -98,22 +106,23 @@ fn spelled(s: &[u8]) -> Fault
 pub fn refusal(s: &[u8]) -> Fault
     ensures { λ r. ⌜ r ≡ lineFault (now (s .entry)) ⌝ }
 {
+    let long = s.len();
     let stray = stray_at(s);
-    if stray < s.len() {
+    if stray < long {
         return Fault {
             number: STRAY,
             place: stray,
         };
     }
-    if s.len() % 2 == 1 {
+    if long % 2 == 1 {
         return Fault {
-            number: UNEVEN,
-            place: s.len(),
+            number: ODD,
+            place: long,
         };
     }
-    if s.len() == 0 {
+    if long == 0 {
         return Fault {
-            number: UNEVEN,
+            number: NONE,
             place: 0,
         };
     }
