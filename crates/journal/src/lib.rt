@@ -45,7 +45,7 @@ pub fn line(s: &[u8], at: usize) -> &[u8]
     }
 }
 
-// 15: "the first line is no start, a later line is one"
+// 15: "the first line is no start, a later line is one", place 0
 fn in_turn(first: bool, next: usize, said: Line) -> Next
     ensures { λ r. ⌜ r ≡ inTurn first next said ⌝ }
 {
@@ -54,27 +54,39 @@ fn in_turn(first: bool, next: usize, said: Line) -> Next
             if first {
                 Next::Begin { n, next }
             } else {
-                Next::Refused { number: 15 }
+                Next::Refused {
+                    number: 15,
+                    place: 0,
+                }
             }
         }
         Line::Act { step } => {
             if first {
-                Next::Refused { number: 15 }
+                Next::Refused {
+                    number: 15,
+                    place: 0,
+                }
             } else {
                 Next::Act { step, next }
             }
         }
-        Line::Refused { number } => Next::Refused { number },
+        Line::Refused { number, place } => Next::Refused { number, place },
     }
 }
 
-// What the reader finds at a place, told the line number and whether the line there is the first.
+// What the reader finds at a place, told the line number and whether the line there is the first. 14 tells the length of what is left.
 pub fn next_in(s: &[u8], at: usize, line: usize, first: bool) -> Next
     ensures { λ r. ⌜ r ≡ nextIn first (now (s .entry)) at line ⌝ }
 {
     match find(s, at) {
         Found::Over => Next::End,
-        Found::Unended => Next::Refused { number: 14 },
+        Found::Unended => {
+            let left = s.len() - at;
+            Next::Refused {
+                number: 14,
+                place: left,
+            }
+        }
         Found::Line { end } => {
             let said = reading::read_line(&s[at..end], line);
             in_turn(first, end + 1, said)
@@ -96,7 +108,7 @@ pub fn part_at(s: &[u8], at: usize, line: usize) -> &[u8]
     match next_at(s, at, line) {
         Next::Begin { n: _, next } => &s[at..next - 1],
         Next::Act { step: _, next } => &s[at..next - 1],
-        Next::Refused { number: _ } => &s[at..at],
+        Next::Refused { .. } => &s[at..at],
         Next::End => {
             let end = s.len();
             &s[end..end]
@@ -111,7 +123,7 @@ pub fn position_at(s: &[u8], at: usize, line: usize) -> usize
     match next_at(s, at, line) {
         Next::Begin { n: _, next } => next,
         Next::Act { step: _, next } => next,
-        Next::Refused { number: _ } => at,
+        Next::Refused { .. } => at,
         Next::End => at,
     }
 }
