@@ -16,7 +16,7 @@ use Rattle.meaning.specs.declared.Action.the-variants.{Write, Session, Purge}
 use Rattle.meaning.specs.declared.Step.{Step}
 use Rattle.meaning.specs.declared.Next.the-variants.{Begin as BeginAt, Act as ActAt, Refused as RefusedAt, End}
 use Rattle.meaning.specs.declared.Outcome.{Outcome}
-use Rattle.meaning.specs.declared.Outcome.the-variants.{Bad, Done}
+use Rattle.meaning.specs.declared.Outcome.the-variants.{Bad, Refused, Done}
 use Rattle.meaning.specs.Steps.{refusal, reported, replied, reply, after}
 use Rattle.meaning.specs.Table.{tableWords, nodesMost, countRight, fresh, madeFresh, Sound}
 use Rattle.meaning.specs.Journals.{Steps, Journal, none, broken, step∷, oneIf, nextIn, nextAt, stepsFrom, journal}
@@ -62,10 +62,10 @@ rest-end n k r t at =
     let b : r + 0 ≡ r = omega arith in
     rw (a, b)
 
-rest-bad : (n k r : ℕ) (t : List ℕ) (at line j : ℕ) → 0 < j → restOutcome n k r t (broken at line j) ≡ Bad line j
+rest-bad : (n k r : ℕ) (t : List ℕ) (at line j p : ℕ) → 0 < j → restOutcome n k r t (broken at line j p) ≡ Bad line j p
 unfolding restOutcome
-rest-bad n k r t at line zero h = absurd (omega arith)
-rest-bad n k r t at line (suc j) h = refl
+rest-bad n k r t at line zero p h = absurd (omega arith)
+rest-bad n k r t at line (suc j) p h = refl
 
 rest-step : (n k r : ℕ) (t : List ℕ) (x : Step) (y : Steps)
     → restOutcome n k r t (step∷ x y) ≡ restOutcome n (k + 1) (r + oneIf (refusal t (x .action))) (after t (x .action)) y
@@ -121,11 +121,11 @@ module _ {s : List ℕ} {from n : ℕ} {t₀ t : List ℕ} {at line refused : �
         table = sym (x .table ∙ ap (λ (z : Steps). afterAll t (z .steps)) e);
       }
 
-  pub reached-bad : {j : ℕ} → 0 < j → stepsFrom (suc (length s + 2 - (line + 1))) s at line ≡ broken at line j
-      → RanFrom s from n t₀ (Bad line j) t
-  reached-bad {j} h e =
-      let w = whole (broken at line j) (left-is e) in
-      record { outcome = sym (rest-bad n (line - 2) refused t at line j h) ∙ w .outcome; table = sym (after-none t) ∙ w .table }
+  pub reached-bad : {j p : ℕ} → 0 < j → stepsFrom (suc (length s + 2 - (line + 1))) s at line ≡ broken at line j p
+      → RanFrom s from n t₀ (Bad line j p) t
+  reached-bad {j} {p} h e =
+      let w = whole (broken at line j p) (left-is e) in
+      record { outcome = sym (rest-bad n (line - 2) refused t at line j p h) ∙ w .outcome; table = sym (after-none t) ∙ w .table }
 
   pub reached-end : nextIn false s at line ≡ End → RanFrom s from n t₀ (Done n (line - 2) refused) t
   reached-end e =
@@ -165,7 +165,7 @@ right-sound n c =
     fresh-sound n (leb-true 2 n low) (leb-true n nodesMost high)
 
 -- a run over a table of the wrong length, and of the right one
-pub run-wrong : (t s : List ℕ) → (length t ≡ tableWords → ⊥) → Ran s t (Bad 0 1) t
+pub run-wrong : (t s : List ℕ) → (length t ≡ tableWords → ⊥) → Ran s t (Refused 1) t
 unfolding runOutcome runAfter
 run-wrong t s h =
     let e = ne-eqb (length t) tableWords h in
@@ -182,15 +182,15 @@ pub begin-is : (s : List ℕ) {n next : ℕ} → nextAt s 0 1 ≡ BeginAt n next
 unfolding journal
 begin-is s e = rw (e, journal)
 
-pub act-is : (s : List ℕ) {x : Step} {next : ℕ} → nextAt s 0 1 ≡ ActAt x next → journal s ≡ record { n = 0; rest = broken 0 1 15 }
+pub act-is : (s : List ℕ) {x : Step} {next : ℕ} → nextAt s 0 1 ≡ ActAt x next → journal s ≡ record { n = 0; rest = broken 0 1 15 0 }
 unfolding journal
 act-is s e = rw (e, journal)
 
-pub refused-is : (s : List ℕ) {k : ℕ} → nextAt s 0 1 ≡ RefusedAt k → journal s ≡ record { n = 0; rest = broken 0 1 k }
+pub refused-is : (s : List ℕ) {k p : ℕ} → nextAt s 0 1 ≡ RefusedAt k p → journal s ≡ record { n = 0; rest = broken 0 1 k p }
 unfolding journal
 refused-is s e = rw (e, journal)
 
-pub end-is : (s : List ℕ) → nextAt s 0 1 ≡ End → journal s ≡ record { n = 0; rest = broken 0 1 15 }
+pub end-is : (s : List ℕ) → nextAt s 0 1 ≡ End → journal s ≡ record { n = 0; rest = broken 0 1 15 0 }
 unfolding journal
 end-is s e = rw (e, journal)
 
@@ -219,15 +219,15 @@ run-begun t s {n} {next} l e c x =
           sym (ap (λ (y : Journal). afterAll (startedFrom (y .n) t) (y .rest .steps)) j) ∙ w .1;
     }
 
-pub run-broken : (t s : List ℕ) {k : ℕ} → length t ≡ tableWords → journal s ≡ record { n = 0; rest = broken 0 1 k } → 0 < k → Ran s t (Bad 1 k) t
+pub run-broken : (t s : List ℕ) {k p : ℕ} → length t ≡ tableWords → journal s ≡ record { n = 0; rest = broken 0 1 k p } → 0 < k → Ran s t (Bad 1 k p) t
 unfolding replayed replayAfter
-run-broken t s {k} l j h =
+run-broken t s {k} {p} l j h =
     let w = run-right t s l in
     record {
       outcome = bad k h ∙ sym (ap (λ (x : Journal). outcomeOf (x .rest .badNumber) x) j) ∙ w .0;
       table = sym (after-none t) ∙ sym (ap (λ (x : Journal). afterAll (startedFrom (x .n) t) (x .rest .steps)) j) ∙ w .1;
     }
   where
-    bad : (i : ℕ) → 0 < i → Bad 1 i ≡ outcomeOf i (record { n = 0; rest = broken 0 1 i })
+    bad : (i : ℕ) → 0 < i → Bad 1 i p ≡ outcomeOf i (record { n = 0; rest = broken 0 1 i p })
     bad zero z = absurd (omega arith)
     bad (suc i) z = refl

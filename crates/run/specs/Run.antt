@@ -6,7 +6,7 @@ use Prim.Native.Nat.{ℕ, zero, suc, _+_, _≤_}
 use lib.ListN.{length}
 use lib.Dec.{leb, eqb}
 use Rattle.meaning.specs.declared.Outcome.{Outcome}
-use Rattle.meaning.specs.declared.Outcome.the-variants.{Bad, Done}
+use Rattle.meaning.specs.declared.Outcome.the-variants.{Bad, Refused as Unread, Done}
 use Rattle.meaning.specs.declared.Reply.{Reply}
 use Rattle.meaning.specs.declared.Reply.the-variants.{Written, Carried, Purged, Refused}
 use Rattle.meaning.specs.declared.Action.{Action}
@@ -15,9 +15,9 @@ use Rattle.meaning.specs.Steps.{refusal, after}
 use Rattle.meaning.specs.Journals.{Steps, Journal, oneIf, stepsFrom, afterAll, refusedOf, replayed, replayAfter, printed, replayText}
 use Rattle.text.specs.Text.{Shown, textMost}
 
--- A table of the wrong length has no room for a fresh one: refusal 1, of no line, and no word is changed.
+-- A table of the wrong length has no room for a fresh one: refusal 1, of no line and at no place, and no word is changed.
 unfoldable pub runOutcome : List ℕ → List ℕ → Outcome
-runOutcome t s = cond (eqb (length t) tableWords) (replayed s) (Bad 0 1)
+runOutcome t s = cond (eqb (length t) tableWords) (replayed s) (Unread 1)
 
 unfoldable pub runAfter : List ℕ → List ℕ → List ℕ
 runAfter t s = cond (eqb (length t) tableWords) (replayAfter t s) t
@@ -32,15 +32,16 @@ refusedBy (Refused k) = 1
 -- The outcome of what is left of a journal, when so many steps are done on the table t, of which so many were refused
 abbrev pub endedBy : ℕ → ℕ → ℕ → ℕ → List ℕ → Steps → Outcome
 endedBy zero n steps refused t x = Done n (steps + length (x .steps)) (refused + refusedOf t (x .steps))
-endedBy (suc k) n steps refused t x = Bad (x .badLine) (suc k)
+endedBy (suc k) n steps refused t x = Bad (x .badLine) (suc k) (x .badPlace)
 
 unfoldable pub restOutcome : ℕ → ℕ → ℕ → List ℕ → Steps → Outcome
 restOutcome n steps refused t x = endedBy (x .badNumber) n steps refused t x
 
--- Document 01's values of a journal's replay, where b is the refused line's number: that line and number, or two zeros and the three counts
+-- Document 01's values of a journal's replay, where b is the refused line's number: that line, number and place, or two zeros and the three
+-- counts
 abbrev pub journalValues : ℕ → Journal → List ℕ
 journalValues zero j = 0 ∷ 0 ∷ j .n ∷ length (j .rest .steps) ∷ refusedOf (fresh (j .n)) (j .rest .steps) ∷ []
-journalValues (suc b) j = j .rest .badLine ∷ suc b ∷ []
+journalValues (suc b) j = j .rest .badLine ∷ suc b ∷ j .rest .badPlace ∷ []
 
 -- "Number 16, only from the program: the journal exceeds 65,536 bytes."
 abbrev pub journalMost : ℕ

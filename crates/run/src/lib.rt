@@ -50,15 +50,23 @@ fn steps(s: &[u8], from: usize, n: u32, t: &mut [u32]) -> Outcome
     loop {
         match journal::next_in(s, at, line, false) {
             Next::Begin { n: _, next: _ } => {
-                return Outcome::Bad { line, number: 15 };
+                return Outcome::Bad {
+                    line,
+                    number: 15,
+                    place: 0,
+                };
             }
             Next::Act { step: x, next } => {
                 refused += step(t, x);
                 at = next;
                 line += 1;
             }
-            Next::Refused { number } => {
-                return Outcome::Bad { line, number };
+            Next::Refused { number, place } => {
+                return Outcome::Bad {
+                    line,
+                    number,
+                    place,
+                };
             }
             Next::End => {
                 return Outcome::Done {
@@ -86,18 +94,24 @@ pub fn run(s: &[u8], t: &mut [u32]) -> Outcome
     ensures { λ r. ⌜ Ran (now (s .entry)) (now (t .entry)) r (now (t .exit)) ⌝ }
 {
     if t.len() != TABLE_WORDS {
-        return Outcome::Bad { line: 0, number: 1 };
+        return Outcome::Refused { number: 1 };
     }
     match journal::next_at(s, 0, 1) {
         Next::Begin { n, next } => from_start(s, next, n as u32, t),
         Next::Act { step: _, next: _ } => Outcome::Bad {
             line: 1,
             number: 15,
+            place: 0,
         },
-        Next::Refused { number } => Outcome::Bad { line: 1, number },
+        Next::Refused { number, place } => Outcome::Bad {
+            line: 1,
+            number,
+            place,
+        },
         Next::End => Outcome::Bad {
             line: 1,
             number: 15,
+            place: 0,
         },
     }
 }
@@ -122,14 +136,7 @@ pub fn replay(s: &[u8], t: &mut [u32], out: &mut [u8]) -> usize
         return 0;
     }
     if JOURNAL_MOST < s.len() {
-        return text::show(
-            out,
-            Outcome::Bad {
-                line: 0,
-                number: 16,
-            },
-            t,
-        );
+        return text::show(out, Outcome::Refused { number: 16 }, t);
     }
     told(s, t, out)
 }

@@ -103,7 +103,7 @@ returns-2 c =
     let t = now (at-loop .before .before .before .args .s) in
     let l = at-loop .loop in
     let e = sym (at-next .next-in .ensures) ∙ at-number .number .given .1 in
-    reached-bad (l .inv) (refused-numbered false t (l .at) (l .line) _ e) (steps-refused _ t (l .at) (l .line) e)
+    reached-bad (l .inv) (refused-numbered false t (l .at) (l .line) _ _ e) (steps-refused _ t (l .at) (l .line) e)
 
 enum-told-2 : tie.Need-enum-told-2 Inv-loop μ-loop
 enum-told-2 c = search needs
