@@ -69,9 +69,10 @@ fn steps(s: &[u8], from: usize, n: u32, t: &mut [u32]) -> Outcome
                 };
             }
             Next::End => {
+                let done = line - 2;
                 return Outcome::Done {
                     n,
-                    steps: line - 2,
+                    steps: done,
                     refused,
                 };
             }

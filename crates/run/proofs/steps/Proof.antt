@@ -108,8 +108,8 @@ returns-2 c =
 enum-told-2 : tie.Need-enum-told-2 Inv-loop μ-loop
 enum-told-2 c = search needs
 
-sub-t15 : tie.Need-sub-t15 Inv-loop μ-loop
-sub-t15 c = omega arith
+sub-done : tie.Need-sub-done Inv-loop μ-loop
+sub-done c = omega arith
 
 same-length-3 : tie.Need-same-length-3 Inv-loop μ-loop
 same-length-3 c = omega arith
@@ -140,6 +140,6 @@ steps-spec =
     same-length-2
     returns-2
     enum-told-2
-    sub-t15
+    sub-done
     same-length-3
     returns-3)
