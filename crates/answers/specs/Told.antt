@@ -1,9 +1,10 @@
 -- What C is told: a reply's values as far as the call has words for them, and what it finds in the words or bytes that it lent.
 use mathlib.Core.Path.{_≡_}
-use mathlib.Core.List.{List}
+use mathlib.Core.List.{List, [], _∷_}
 use Prim.Native.Nat.{ℕ}
 use lib.ListN.{length, take}
 use Rattle.meaning.specs.declared.Action.{Action}
+use Rattle.meaning.specs.declared.Fault.{Fault}
 use Rattle.meaning.specs.Steps.{reply, after, replyValues}
 use Rattle.meaning.specs.Frames.{framedValues, frameReply, frameAfter, startReply, startAfter}
 
@@ -18,3 +19,7 @@ Framed out x told bytes = (told ≡ framedValues (frameReply out x)) × (bytes �
 -- of a start's frame, likewise
 abbrev pub Started : List ℕ → ℕ → List ℕ → List ℕ → Type 0
 Started out n told bytes = (told ≡ framedValues (startReply out n)) × (bytes ≡ startAfter out n)
+
+-- of a checked line: the number of its refusal and the place in it
+abbrev pub faultValues : Fault → List ℕ
+faultValues f = f .number ∷ f .place ∷ []

@@ -99,13 +99,25 @@ fn freed(t: &mut [u32]) {
     say::purge(t, b"a purge of what is not acknowledged", 0);
 }
 
-// "`000` 11; `0001FF` 15", and the start of 17 nodes.
+// "`000` 11", by T-01 18; "`0001FF` 15", and the start of 17 nodes.
 fn lines() {
     say::frame(b"000");
     say::frame(b"0001FF");
     say::frame(b"0002FE");
     say::frame(b"0010F0");
     say::frame(b"0011EF");
+}
+
+// A line of each refusal, its place told: a stray character, a purge cut short, with a digit too many and with two, an unknown kind, a session's
+// outcome, and a sum.
+fn places() {
+    say::frame(b"0300Fd");
+    say::frame(b"0300");
+    say::frame(b"0300FD0");
+    say::frame(b"0300FD00");
+    say::frame(b"0400FD");
+    say::frame(b"020001000000060000000404EF");
+    say::frame(b"020001000000060000000403F1");
 }
 
 // Document 01's journal, each line's part, position and frame.
@@ -167,6 +179,7 @@ fn main() {
     room(t);
     ends(t);
     lines();
+    places();
     example();
     journals();
 }
