@@ -16,7 +16,7 @@ use Rattle.meaning.proofs.RowLaws.{and-left, and-right}
 use Rattle.meaning.proofs.FrameLaws.{digit-none, length-bytesOf, byte-at, digits-at, digits-all, total-append, number-snoc}
 use Rattle.digits.specs.Digits.{letterValue, byteOf, weigh, addsUp, fieldAt}
 
-abbrev Digit : List ℕ → ℕ → Type 0
+abbrev pub Digit : List ℕ → ℕ → Type 0
 Digit l i = digitValue (getD l i 0) < 16
 
 -- a letter's number, and a digit's that is no decimal one
@@ -132,13 +132,6 @@ module _ (l : List ℕ) where
       go : (b : Bool) → allDigits l ≡ b → b ≡ false
       go true d = absurd (omega (arith, s .0 d))
       go false d = refl
-
-  pub seen-tells : (seen n : ℕ) → n ≡ length l → Seen seen n → leb seen 15 ≡ allDigits l
-  seen-tells seen n e s = go (leb seen 15) refl
-    where
-      go : (b : Bool) → leb seen 15 ≡ b → b ≡ allDigits l
-      go true x = sym (seen-all seen n e s (leb-true seen 15 x))
-      go false x = sym (seen-stray seen n s (leb-false seen 15 x))
 
   -- the sum of the whole bytes before a place, and after a byte's first digit 16 times that digit too
   abbrev pub Sum : ℕ → ℕ → Type 0

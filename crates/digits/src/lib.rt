@@ -1,9 +1,9 @@
-// A line's digits: their numbers, whether all are digits, their sum, and the bytes that they spell. Nothing here knows a kind.
+// A line's digits: their numbers, the first character that is none, their sum, and the bytes that they spell. Nothing here knows a kind.
 // Inner functions: what they require, `heads` and `reading` show.
 ghost use mathlib.Core.Path.{_≡_};
 ghost use Prim.Native.Nat.{_+_, _*_, _%_, _<_};
 ghost use lib.ListN.{length};
-ghost use Rattle.meaning.specs.Frames.{digitValue, allDigits};
+ghost use Rattle.meaning.specs.Frames.{digitValue, strayAt};
 ghost use Rattle.digits.specs.Digits.{letterValue, byteOf, weigh, addsUp, fieldAt, Within};
 
 // The number of a letter A to F, 16 for any other character.
@@ -71,17 +71,18 @@ pub fn adds_up(s: &[u8]) -> bool
     sum == 0
 }
 
-// Whether a line has only digits.
-pub fn all_digits(s: &[u8]) -> bool
-    ensures { λ r. ⌜ r ≡ allDigits (now (s .entry)) ⌝ }
+// The place of the first character that is no digit, the line's length where all are. Only a line that is refused is asked for it.
+pub fn stray_at(s: &[u8]) -> usize
+    ensures { λ r. ⌜ r ≡ strayAt (now (s .entry)) ⌝ }
 {
-    let mut seen: u8 = 0;
     let mut k: usize = 0;
     while k < s.len() {
-        seen = seen | digit_value(s[k]);
+        if 15 < digit_value(s[k]) {
+            return k;
+        }
         k += 1;
     }
-    seen <= 15
+    k
 }
 
 // The number of a character that is known to be a digit.

@@ -2,13 +2,13 @@
 use mathlib.Core.Path.{_≡_, refl, sym, _∙_, ap}
 use mathlib.Core.Bool.{Bool, true, false, not, _&&_, cond, true≢false}
 use mathlib.Core.List.{List, [], _∷_}
-use Prim.Native.Nat.{ℕ, _+_, _*_, _%_, _≤_, _<_}
+use Prim.Native.Nat.{ℕ, _+_, _-_, _*_, _%_, _≤_, _<_, min}
 use native.Mathlib.Omega.{arith}
 use lib.ListN.{length, getD, take}
 use lib.Seq.{take-all}
 use lib.Dec.{eqb}
 use borrow.Author.Tests.{lt-ltb, eqb-true, eqb-false, eq-eqb, ne-eqb}
-use Rattle.meaning.specs.Refusals.{Test, test, first}
+use Rattle.meaning.specs.Refusals.{Test, testAt, first, firstPlace}
 use Rattle.meaning.specs.Table.{countRight}
 use Rattle.meaning.specs.Frames.{
   digitValue,
@@ -26,6 +26,8 @@ use Rattle.meaning.specs.Frames.{
   startWrong,
   fieldTests,
   lineRefusal,
+  faultOf,
+  lineFault,
 }
 use Rattle.meaning.proofs.FrameLaws.{
   digits-at,
@@ -37,6 +39,8 @@ use Rattle.meaning.proofs.FrameLaws.{
   refused-unknown,
   refused-length,
   refusal-whole,
+  outcome-place,
+  fault-is,
   count-right,
   count-wrong,
 }
@@ -98,25 +102,25 @@ pub count-not : (n : ℕ) → (2 ≤ n → n ≤ 16 → ⊥) → true ≡ not (c
 count-not n p = sym (ap not (count-wrong n p))
 
 -- the tests of a line that has its kind's length, in their order
-module _ (above sums wrong : Bool) where
+module _ (above sums wrong : Bool) (check : ℕ) where
   abbrev tests : List Test
-  tests = test 11 above ∷ test 13 (not sums) ∷ test 15 wrong ∷ []
+  tests = testAt 20 22 above ∷ testAt 13 check (not sums) ∷ testAt 15 0 wrong ∷ []
 
-  pub late-outcome : above ≡ true → 11 ≡ first tests
-  unfolding first
-  late-outcome p = cc
+  pub late-outcome : above ≡ true → record { number = 20; place = 22 } ≡ faultOf tests
+  unfolding first firstPlace
+  late-outcome p = rw p refl
 
-  pub late-sum : above ≡ false → sums ≡ false → 13 ≡ first tests
-  unfolding first
-  late-sum p q = cc
+  pub late-sum : above ≡ false → sums ≡ false → record { number = 13; place = check } ≡ faultOf tests
+  unfolding first firstPlace
+  late-sum p q = rw (p, q) refl
 
-  pub late-start : above ≡ false → sums ≡ true → wrong ≡ true → 15 ≡ first tests
-  unfolding first
-  late-start p q r = cc
+  pub late-start : above ≡ false → sums ≡ true → wrong ≡ true → record { number = 15; place = 0 } ≡ faultOf tests
+  unfolding first firstPlace
+  late-start p q r = rw (p, q, r) refl
 
-  pub late-none : above ≡ false → sums ≡ true → wrong ≡ false → 0 ≡ first tests
-  unfolding first
-  late-none p q r = cc
+  pub late-none : above ≡ false → sums ≡ true → wrong ≡ false → record { number = 0; place = 0 } ≡ faultOf tests
+  unfolding first firstPlace
+  late-none p q r = rw (p, q, r) refl
 
 -- a line's head: 255 where something is wrong with it, else its kind
 module _ (l : List ℕ) where
@@ -219,22 +223,32 @@ module _ (l : List ℕ) where
 -- why a line of digits is refused, by its first byte and the digits that are due
 module _ (l : List ℕ) (kind due : ℕ) (a : allDigits l ≡ true) (k : kind ≡ fieldAt l 0 1) (d : due ≡ dueOf kind) where
   module _ (even : length l % 2 ≡ 0) (some : 0 < length l) where
-    pub line-unknown : due ≡ 0 → 11 ≡ lineRefusal l
-    line-unknown z = sym (refused-unknown l a even some (rw (is-kind l kind due k d) (due-unknown kind due d z)))
+    pub line-unknown : due ≡ 0 → record { number = 11; place = 0 } ≡ lineFault l
+    line-unknown z = fault-is l 11 0 (refused-unknown l a even some (rw (is-kind l kind due k d) (due-unknown kind due d z)))
 
-    pub line-length : (due ≡ 0 → ⊥) → (length l ≡ due → ⊥) → 11 ≡ lineRefusal l
-    line-length z h =
+    -- the smaller of both lengths
+    line-length : (p : ℕ) → (due ≡ 0 → ⊥) → (length l ≡ due → ⊥) → p ≡ min (length l) due → record { number = 19; place = p } ≡ lineFault l
+    line-length p z h e =
         let is = is-kind l kind due k d in
         let known-due = due-known kind due d z in
-        sym (refused-length l a even some (rw is (known-due .0)) (λ e. h (e ∙ ap digitsOf is ∙ sym (known-due .1))))
+        let digits : digitsOf (lineKind (bytesOf l)) ≡ due = ap digitsOf is ∙ sym (known-due .1) in
+        let given = refused-length l a even some (rw is (known-due .0)) (λ f. h (f ∙ digits)) in
+        fault-is l 19 p (given .0, given .1 ∙ ap (min (length l)) digits ∙ sym e)
 
-pub line-late : (l : List ℕ) (kind : ℕ) (above sums wrong : Bool) → Whole l kind → above ≡ outcomeHigh (bytesOf l) → sums ≡ addsUp l
-    → wrong ≡ startWrong (bytesOf l) → first (test 11 above ∷ test 13 (not sums) ∷ test 15 wrong ∷ []) ≡ lineRefusal l
+    pub line-short : (due ≡ 0 → ⊥) → length l < due → record { number = 19; place = length l } ≡ lineFault l
+    line-short z h = line-length (length l) z (omega arith) (omega arith)
+
+    pub line-surplus : (due ≡ 0 → ⊥) → due < length l → record { number = 19; place = due } ≡ lineFault l
+    line-surplus z h = line-length due z (omega arith) (omega arith)
+
+pub line-late : (l : List ℕ) (kind check : ℕ) (above sums wrong : Bool) → Whole l kind → check ≡ length l - 2 → above ≡ outcomeHigh (bytesOf l)
+    → sums ≡ addsUp l → wrong ≡ startWrong (bytesOf l)
+    → faultOf (testAt 20 22 above ∷ testAt 13 check (not sums) ∷ testAt 15 0 wrong ∷ []) ≡ lineFault l
 unfolding fieldTests
-line-late l kind above sums wrong w p q r =
+line-late l kind check above sums wrong w c p q r =
     let zero-sum : sums ≡ eqb (total (bytesOf l)) 0 = q ∙ sym (adds-sum l (total (bytesOf l)) (w .digits) refl) in
     let whole = refusal-whole l (w .digits) (rw (w .is) (w .has-kind)) (w .long ∙ ap digitsOf (sym (w .is))) in
-    rw (p, zero-sum, r) (sym whole)
+    rw (p, zero-sum, r, c, ← outcome-place) (fault-is l (first (fieldTests l)) (firstPlace (fieldTests l)) whole)
 
 -- the head of six digits with the sum zero
 module _ (kind n due : ℕ) (e : due ≡ dueOf kind) where

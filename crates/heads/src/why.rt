@@ -1,68 +1,130 @@
-// The other way: why a line is refused, each clause asked in document 01's order.
+// The other way: why a line is refused, and where, each clause asked in the order of documents 01 and 02 (T-01).
 ghost use mathlib.Core.Path.{_≡_};
-ghost use mathlib.Core.Bool.{not};
+ghost use mathlib.Core.Bool.{true, not};
 ghost use mathlib.Core.List.{[], _∷_};
-ghost use Rattle.meaning.specs.Refusals.{test, first};
-ghost use Rattle.meaning.specs.Frames.{lineRefusal};
+ghost use Prim.Native.Nat.{_%_, _<_};
+ghost use lib.ListN.{length};
+ghost use Rattle.meaning.specs.Refusals.{testAt};
+ghost use Rattle.meaning.specs.Frames.{allDigits, faultOf, lineFault};
 use super::kinds::length_of;
 use super::kinds::outcome_above;
 use super::kinds::start_wrong;
 use digits::adds_up;
-use digits::all_digits;
 use digits::byte;
+use digits::stray_at;
+use meaning::Fault;
 
-// The number of each clause: "a character is not 0 to 9 or A to F"; "the digits are none or odd in number, the kind is unknown, the length is
-// not the kind's, or an outcome is above 3"; "the sum is not zero"; "a start's n is not 2 to 16".
+// The number of each clause: "a character is not 0 to 9 or A to F"; "18 no digits or odd, 11 [the kind is unknown], 19 wrong length, 20 outcome
+// above 3"; "the sum is not zero"; "a start's n is not 2 to 16".
 const STRAY: u32 = 12;
 
-const UNEVEN: u32 = 11;
+const ODD: u32 = 18;
+
+const NONE: u32 = 18;
 
 const UNKNOWN: u32 = 11;
 
-const LENGTH: u32 = 11;
+const SHORT: u32 = 19;
 
-const OUTCOME: u32 = 11;
+const SURPLUS: u32 = 19;
+
+const OUTCOME: u32 = 20;
 
 const SUM: u32 = 13;
 
 const START: u32 = 15;
 
-// The refusal of a line that has its kind's length, 0 for none.
-fn late(above: bool, sums: bool, wrong: bool) -> u32
-    ensures { λ r. ⌜ r ≡ first (test 11 above ∷ test 13 (not sums) ∷ test 15 wrong ∷ []) ⌝ }
+// The places that no line changes: the kind's first digit, the outcome's, and that of a wrong start, "for 15 place 0".
+const KIND_AT: usize = 0;
+
+const OUTCOME_AT: usize = 22;
+
+const START_AT: usize = 0;
+
+// The refusal of a line that has its kind's length, told the place of its check byte; two zeros for none.
+fn late(above: bool, sums: bool, wrong: bool, check: usize) -> Fault
+    ensures { λ r. ⌜ r ≡ faultOf (testAt 20 22 above ∷ testAt 13 check (not sums) ∷ testAt 15 0 wrong ∷ []) ⌝ }
 {
     if above {
-        return OUTCOME;
+        return Fault {
+            number: OUTCOME,
+            place: OUTCOME_AT,
+        };
     }
     if !sums {
-        return SUM;
+        return Fault {
+            number: SUM,
+            place: check,
+        };
     }
     if wrong {
-        return START;
+        return Fault {
+            number: START,
+            place: START_AT,
+        };
     }
-    0
+    Fault {
+        number: 0,
+        place: 0,
+    }
 }
 
-// The refusal of any line, the first that applies, 0 for none.
-pub fn refusal(s: &[u8]) -> u32
-    ensures { λ r. ⌜ r ≡ lineRefusal (now (s .entry)) ⌝ }
+// The refusal of a line of digits, some and even in number.
+fn spelled(s: &[u8]) -> Fault
+    requires { ⌜ (allDigits (now s) ≡ true) × (length (now s) % 2 ≡ 0) × (0 < length (now s)) ⌝ }
+    ensures { λ r. ⌜ r ≡ lineFault (now (s .entry)) ⌝ }
 {
-    if !all_digits(s) {
-        return STRAY;
-    }
-    if s.len() % 2 == 1 {
-        return UNEVEN;
-    }
-    if s.len() == 0 {
-        return UNEVEN;
-    }
     let kind = byte(s, 0);
     let due = length_of(kind);
     if due == 0 {
-        return UNKNOWN;
+        return Fault {
+            number: UNKNOWN,
+            place: KIND_AT,
+        };
     }
-    if s.len() != due {
-        return LENGTH;
+    if s.len() < due {
+        return Fault {
+            number: SHORT,
+            place: s.len(),
+        };
     }
-    late(outcome_above(s, kind), adds_up(s), start_wrong(s, kind))
+    if due < s.len() {
+        return Fault {
+            number: SURPLUS,
+            place: due,
+        };
+    }
+    late(
+        outcome_above(s, kind),
+        adds_up(s),
+        start_wrong(s, kind),
+        due - 2,
+    )
+}
+
+// The refusal of any line, the first that applies, with its place; two zeros for none.
+pub fn refusal(s: &[u8]) -> Fault
+    ensures { λ r. ⌜ r ≡ lineFault (now (s .entry)) ⌝ }
+{
+    let long = s.len();
+    let stray = stray_at(s);
+    if stray < long {
+        return Fault {
+            number: STRAY,
+            place: stray,
+        };
+    }
+    if long % 2 == 1 {
+        return Fault {
+            number: ODD,
+            place: long,
+        };
+    }
+    if long == 0 {
+        return Fault {
+            number: NONE,
+            place: 0,
+        };
+    }
+    spelled(s)
 }

@@ -6,11 +6,16 @@ use lib.ListN.{length}
 use Rattle.meaning.specs.declared.Action.{Action}
 use Rattle.meaning.specs.declared.Reply.{Reply}
 use Rattle.meaning.specs.declared.Reply.the-variants.{Written, Carried, Purged, Refused}
+use Rattle.meaning.specs.declared.Answer.{Answer}
 use Rattle.meaning.specs.declared.Progress.{Progress}
 use Rattle.meaning.specs.Table.{Sound}
 use Rattle.meaning.specs.Steps.{refusal, after}
 use Rattle.meaning.specs.Journals.{oneIf, stepsFrom, afterAll}
 use Rattle.meaning.specs.Lines.{lineReply, lineAfter, progress, linesReply, linesAfter}
+
+-- A line's refusal: the number, at its place in the line
+abbrev pub refusedLine : ℕ → ℕ → Answer
+refusedLine k p = record { reply = Refused k; place = p }
 
 -- "a refused step is counted and passed over"
 abbrev pub refusedBy : Reply → ℕ
@@ -32,7 +37,7 @@ pub record AppliedFrom (s : List ℕ) (from first : ℕ) (t : List ℕ) (r : Pro
   pub table : t′ ≡ afterAll t (stepsFrom (length s) s from first .steps)
 
 -- One line, and many
-abbrev pub AppliedLine : List ℕ → List ℕ → Reply → List ℕ → Type 0
+abbrev pub AppliedLine : List ℕ → List ℕ → Answer → List ℕ → Type 0
 AppliedLine t l r t′ = (r ≡ lineReply t l) × (t′ ≡ lineAfter t l)
 
 abbrev pub AppliedLines : List ℕ → List ℕ → Progress → List ℕ → Type 0

@@ -5,8 +5,9 @@ ghost use Prim.Native.Nat.{_+_, _≤_};
 ghost use lib.ListN.{length};
 ghost use Rattle.meaning.specs.Table.{Sound};
 ghost use Rattle.looks.specs.Applied.{Applied};
-ghost use Rattle.lines.specs.Applying.{refusedBy, Stepped, AppliedFrom, AppliedLine, AppliedLines};
+ghost use Rattle.lines.specs.Applying.{refusedLine, refusedBy, Stepped, AppliedFrom, AppliedLine, AppliedLines};
 use meaning::Action;
+use meaning::Answer;
 use meaning::Next;
 use meaning::Progress;
 use meaning::Reply;
@@ -35,18 +36,29 @@ fn act(t: &mut [u32], action: Action) -> Reply
     }
 }
 
-// One line on any words: the line's refusal, 15 for a start, or what its step reports; a refusal changes no word.
-pub fn apply_line(t: &mut [u32], line: &[u8]) -> Reply
+// A line's refusal, at its place
+fn refused(number: u32, place: usize) -> Answer
+    ensures { λ r. ⌜ r ≡ refusedLine number place ⌝ }
+{
+    Answer {
+        reply: Reply::Refused { number },
+        place,
+    }
+}
+
+// One line on any words: the line's refusal with its place, 15 for a start, or what its step reports; a refusal changes no word.
+pub fn apply_line(t: &mut [u32], line: &[u8]) -> Answer
     ensures { λ r. ⌜ AppliedLine (now (t .entry)) (now (line .entry)) r (now (t .exit)) ⌝ }
 {
     match journal::said(line, 1, false, 0) {
-        Next::Begin { n: _, next: _ } => Reply::Refused { number: 15 },
+        Next::Begin { n: _, next: _ } => refused(15, 0),
         Next::Act { step, next: _ } => {
             let action = step.action;
-            act(t, action)
+            let reply = act(t, action);
+            Answer { reply, place: 0 }
         }
-        Next::Refused { number } => Reply::Refused { number },
-        Next::End => Reply::Refused { number: 15 },
+        Next::Refused { number, place } => refused(number, place),
+        Next::End => refused(15, 0),
     }
 }
 
@@ -88,6 +100,7 @@ pub fn apply_from(s: &[u8], from: usize, first: usize, t: &mut [u32]) -> Progres
                     refused,
                     stop,
                     number: 15,
+                    place: 0,
                 };
             }
             Next::Act { step: x, next } => {
@@ -95,12 +108,13 @@ pub fn apply_from(s: &[u8], from: usize, first: usize, t: &mut [u32]) -> Progres
                 refused += step(t, x);
                 stop = next;
             }
-            Next::Refused { number } => {
+            Next::Refused { number, place } => {
                 return Progress {
                     steps,
                     refused,
                     stop,
                     number,
+                    place,
                 };
             }
             Next::End => {
@@ -109,6 +123,7 @@ pub fn apply_from(s: &[u8], from: usize, first: usize, t: &mut [u32]) -> Progres
                     refused,
                     stop,
                     number: 0,
+                    place: 0,
                 };
             }
         }
@@ -125,6 +140,7 @@ pub fn apply_lines(t: &mut [u32], s: &[u8]) -> Progress
             refused: 0,
             stop: 0,
             number: 1,
+            place: 0,
         };
     }
     apply_from(s, 0, 1, t)

@@ -24,5 +24,6 @@ pub mod ClassRanges
 pub mod OneReply
 pub mod FrameInverses
 pub mod FrameTheorems
+pub mod FaultTheorems
 pub mod WideLaws
 pub mod Numbers

@@ -1,6 +1,5 @@
 -- `field` meets its contract: a refused line, and the fields of each kind.
-use mathlib.Core.Path.{refl}
-use Rattle.meaning.specs.Frames.{journalKinds, widthsIn, digitsIn, lineRefusal}
+use Rattle.meaning.specs.Frames.{journalKinds, widthsIn, digitsIn}
 use Rattle.heads.proofs.FieldLaws.{whole-at, whole-short}
 use Rattle.heads.proofs.HeadLaws.{head-clear, head-refused}
 use Rattle.reading.proofs.LineLaws.{refused-field, line-whole, write-value, session-value, short-value}
@@ -16,7 +15,7 @@ returns c =
     let at-head = c .before in
     let start = at-head .before .before in
     let s = start .args .s .now in
-    refused-field s (lineRefusal s) (start .args .index) refl (head-refused s (at-head .head .result) (at-head .head .ensures) (c .if1 .taken))
+    refused-field s (start .args .index) (head-refused s (at-head .head .result) (at-head .head .ensures) (c .if1 .taken))
 
 write-field-requires : tie.Need-write-field-requires
 unfolding digitsIn widthsIn journalKinds

@@ -1,6 +1,4 @@
 -- `kind` meets its contract: a refused line, and the head of any other.
-use mathlib.Core.Path.{refl}
-use Rattle.meaning.specs.Frames.{lineRefusal}
 use Rattle.heads.proofs.HeadLaws.{head-clear, head-refused}
 use Rattle.reading.proofs.LineLaws.{refused-kind, line-kind}
 use borrow.Author.Needs.{needs}
@@ -14,7 +12,7 @@ returns : tie.Need-returns
 returns c =
     let at-head = c .before in
     let s = at-head .before .before .args .s .now in
-    refused-kind s (lineRefusal s) refl (head-refused s (at-head .head .result) (at-head .head .ensures) (c .if1 .taken))
+    refused-kind s (head-refused s (at-head .head .result) (at-head .head .ensures) (c .if1 .taken))
 
 cast-result : tie.Need-cast-result
 cast-result c = search needs

@@ -1,5 +1,5 @@
 -- `read_line` meets its contract: a refusal, a start or a step.
-use mathlib.Core.Path.{sym, _∙_, ap}
+use mathlib.Core.Path.{_∙_, ap}
 use native.Mathlib.Omega.{arith}
 use Rattle.meaning.specs.declared.Line.the-variants.{Act}
 use Rattle.heads.proofs.HeadLaws.{head-clear, head-refused}
@@ -21,7 +21,7 @@ returns c =
     let start = at-head .before .before in
     let s = start .args .s .now in
     let wrong = head-refused s (at-head .head .result) (at-head .head .ensures) (at-if1 .if1 .taken) in
-    line-refused s (start .args .line) (c .refusal .result) (c .refusal .ensures) (λ z. wrong (sym (c .refusal .ensures) ∙ z))
+    line-refused s (start .args .line) (c .refusal .result) (c .refusal .ensures) wrong
 
 byte-requires : tie.Need-byte-requires
 byte-requires c κs =

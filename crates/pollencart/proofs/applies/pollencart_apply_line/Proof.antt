@@ -1,8 +1,9 @@
--- `pollencart_line` meets its contract: the values of the line's reply, and the words that it leaves.
-use Rattle.answers.proofs.ValueLaws.{all-told}
+-- `pollencart_apply_line` meets its contract: the values of the line's answer, and the words that it leaves.
+use mathlib.Core.Path.{refl}
+use Rattle.answers.proofs.ValueLaws.{line-told}
 use borrow.Author.Needs.{needs}
-use Rattle.pollencart.proofs.applies.pollencart_line.Statement.{statement}
-use Rattle.pollencart.proofs.applies.pollencart_line.Tie as tie
+use Rattle.pollencart.proofs.applies.pollencart_apply_line.Statement.{statement}
+use Rattle.pollencart.proofs.applies.pollencart_apply_line.Tie as tie
 
 apply-line-requires : tie.Need-apply-line-requires
 apply-line-requires c κs = search needs
@@ -22,8 +23,9 @@ same-length c = search needs
 returns : tie.Need-returns
 returns c =
     let at-second = c .before in
-    let at-apply = at-second .before .before .before .before in (
-      all-told _ _ (at-apply .apply-line .ensures .0) _ _ _ (c .number-of .ensures) (at-second .before .first-of .ensures) (at-second .second-of .ensures),
+    let at-apply = at-second .before .before .before .before in
+    let first = at-second .before .first-of .ensures in (
+      line-told _ _ (at-apply .apply-line .ensures .0) _ _ _ _ (c .number-of .ensures) first (at-second .second-of .ensures) refl,
       at-apply .apply-line .ensures .1,
     )
 

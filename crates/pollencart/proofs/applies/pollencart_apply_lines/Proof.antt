@@ -1,9 +1,9 @@
--- `pollencart_lines` meets its contract: the values of how far the lines came, and the words that they leave.
+-- `pollencart_apply_lines` meets its contract: the values of how far the lines came, and the words that they leave.
 use mathlib.Core.Path.{ap}
 use Rattle.meaning.specs.Lines.{progressValues}
 use borrow.Author.Needs.{needs}
-use Rattle.pollencart.proofs.applies.pollencart_lines.Statement.{statement}
-use Rattle.pollencart.proofs.applies.pollencart_lines.Tie as tie
+use Rattle.pollencart.proofs.applies.pollencart_apply_lines.Statement.{statement}
+use Rattle.pollencart.proofs.applies.pollencart_apply_lines.Tie as tie
 
 apply-lines-requires : tie.Need-apply-lines-requires
 apply-lines-requires c κs = search needs
