@@ -5,13 +5,14 @@ use mathlib.Core.List.{List, [], _∷_, _++_}
 use Prim.Native.Nat.{ℕ, zero, suc, _+_, _-_, _*_, _/_, _%_, _≤_, _<_}
 use native.Mathlib.Omega.{arith}
 use native.Mathlib.Numerals.{add-one}
-use lib.Bits.{bitOr, or-lt, or-add-and, and-le-l, and-le-r}
+use lib.Bits.{bitOr, or-lt}
 use lib.ListN.{length, getD, take, drop, length-drop}
 use lib.Seq.{take-suc, take-all, getD-drop}
 use lib.Dec.{leb, ltb, eqb}
 use borrow.Author.Tests.{ltb-true, lt-ltb, leb-true, leb-false, le-leb, eqb-true, eq-eqb, ne-eqb}
 use borrow.Author.Count.{below-more}
 use Rattle.meaning.specs.Frames.{digitValue, bytesOf, allDigits, total, number}
+use Rattle.meaning.proofs.BitLaws.{or-left, or-right}
 use Rattle.meaning.proofs.RowLaws.{and-left, and-right}
 use Rattle.meaning.proofs.FrameLaws.{digit-none, length-bytesOf, byte-at, digits-at, digits-all, total-append, number-snoc}
 use Rattle.digits.specs.Digits.{letterValue, byteOf, weigh, addsUp, fieldAt}
@@ -53,16 +54,6 @@ digit-letters c h p = go (leb 65 c) (leb c 70) refl refl
     go true false x y = absurd (omega (arith, digit-none c p (λ u v. omega (arith, leb-false c 70 y))))
     go false b x y = absurd (omega (arith, digit-none c p (λ u v. omega (arith, leb-false 65 c x))))
 
--- all are digits exactly if their numbers together have no bit from 16 on
-pub or-below : (a b : ℕ) → a < 16 → b < 16 → bitOr a b < 16
-or-below a b p q = or-lt 4 a b p q
-
-pub or-left : (a b : ℕ) → bitOr a b < 16 → a < 16
-or-left a b h = omega (arith, or-add-and a b, and-le-r a b)
-
-pub or-right : (a b : ℕ) → bitOr a b < 16 → b < 16
-or-right a b h = omega (arith, or-add-and a b, and-le-l a b)
-
 -- the byte of two characters
 pub two-none : (high low h l : ℕ) → h ≡ digitValue high → l ≡ digitValue low → 15 < bitOr h l → 256 ≡ byteOf high low
 unfolding byteOf
@@ -70,7 +61,7 @@ two-none high low h l e f p = go (ltb (digitValue high) 16) (ltb (digitValue low
   where
     go : (a b : Bool) → ltb (digitValue high) 16 ≡ a → ltb (digitValue low) 16 ≡ b → 256 ≡ cond (a && b) (16 * digitValue high + digitValue low) 256
     go true true x y =
-        let below = or-below h l (omega (arith, ltb-true (digitValue high) 16 x)) (omega (arith, ltb-true (digitValue low) 16 y)) in
+        let below = or-lt 4 h l (omega (arith, ltb-true (digitValue high) 16 x)) (omega (arith, ltb-true (digitValue low) 16 y)) in
         absurd (omega arith)
     go true false x y = refl
     go false b x y = refl
@@ -81,8 +72,8 @@ byte-digits high low p q = cc (lt-ltb (digitValue high) 16 p, lt-ltb (digitValue
 
 pub two-some : (high low h l : ℕ) → h ≡ digitValue high → l ≡ digitValue low → bitOr h l ≤ 15 → 16 * h + l ≡ byteOf high low
 two-some high low h l e f p =
-    let a : digitValue high < 16 = rw e at (or-left h l (omega arith)) in
-    let b : digitValue low < 16 = rw f at (or-right h l (omega arith)) in
+    let a : digitValue high < 16 = rw e at (or-left 16 h l (omega arith)) in
+    let b : digitValue low < 16 = rw f at (or-right 16 h l (omega arith)) in
     omega (arith, byte-digits high low a b)
 
 pub byte-below : (high low : ℕ) → byteOf high low ≤ 255
@@ -119,8 +110,8 @@ module _ (l : List ℕ) where
 
   pub seen-more : (seen n d : ℕ) → n < length l → d ≡ digitValue (getD l n 0) → Seen seen n → Seen (bitOr seen d) (n + 1)
   seen-more seen n d h e s = (
-    λ a. or-below seen d (s .0 a) (omega (arith, digits-at l n a h)),
-    λ p i q. below-more (Digit l) n (s .1 (or-left seen d p)) (omega (arith, or-right seen d p)) i q,
+    λ a. or-lt 4 seen d (s .0 a) (omega (arith, digits-at l n a h)),
+    λ p i q. below-more (Digit l) n (s .1 (or-left 16 seen d p)) (omega (arith, or-right 16 seen d p)) i q,
   )
 
   pub seen-all : (seen n : ℕ) → n ≡ length l → Seen seen n → seen ≤ 15 → allDigits l ≡ true
