@@ -6,7 +6,7 @@ ghost use Rattle.meaning.specs.Frames.{bytesOf, outcomeHigh, startWrong};
 ghost use Rattle.heads.specs.Heads.{dueOf, Whole};
 use digits::byte;
 
-// The digits of a kind's lines, 0 for a kind that is unknown. The one place in code that holds the kinds' rows; the quick way has an arm
+// The digits of a kind's lines, 0 for a kind that is unknown. The one place in code that holds the kinds' rows; the quick way has a function
 // for each length that stands here.
 pub(crate) fn length_of(kind: u8) -> usize
     ensures { λ r. ⌜ r ≡ dueOf kind ⌝ }

@@ -1,4 +1,4 @@
-// A line's head: whether it is accepted, with its kind, and why not. Inner functions of the reader. Document 01, "Frames and journals".
-pub mod head;
+// Whether a line is accepted, and why not. Inner functions of the reader. Document 01, "Frames and journals".
 mod kinds;
+pub mod quick;
 pub mod why;

@@ -9,9 +9,9 @@ ghost use Rattle.meaning.specs.Frames.{allDigits, faultOf, lineFault};
 use super::kinds::length_of;
 use super::kinds::outcome_above;
 use super::kinds::start_wrong;
-use digits::adds_up;
 use digits::byte;
 use digits::stray_at;
+use digits::total;
 use meaning::Fault;
 
 // The number of each clause: "a character is not 0 to 9 or A to F"; "18 no digits or odd, 11 [the kind is unknown], 19 wrong length, 20 outcome
@@ -96,7 +96,7 @@ fn spelled(s: &[u8]) -> Fault
     }
     late(
         outcome_above(s, kind),
-        adds_up(s),
+        total(s) == 0,
         start_wrong(s, kind),
         due - 2,
     )

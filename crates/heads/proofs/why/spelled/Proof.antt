@@ -1,8 +1,9 @@
 -- `spelled` meets its contract: a law for each clause, in their order.
-use mathlib.Core.Path.{_≡_, _∙_}
-use Prim.Native.Nat.{_-_}
+use mathlib.Core.Path.{_≡_, _∙_, ap}
+use Prim.Native.Nat.{ℕ, _-_}
 use native.Mathlib.Omega.{arith}
 use lib.ListN.{length}
+use lib.Dec.{eqb}
 use Rattle.heads.proofs.HeadLaws.{whole-of, line-unknown, line-short, line-surplus, line-late}
 use borrow.Author.Needs.{needs}
 use Rattle.heads.proofs.why.spelled.Statement.{statement}
@@ -53,8 +54,8 @@ outcome-above-requires c κs =
     whole-of (start .args .s .now) (at-byte .byte .result) (at-length .length-of .result) (at-byte .byte .ensures) (at-length .length-of .ensures)
     (pre .0) (omega (arith, at-if2 .if2 .left, c .if3 .left)) (pre .2)
 
-adds-up-requires : tie.Need-adds-up-requires
-adds-up-requires c κs = search needs
+total-requires : tie.Need-total-requires
+total-requires c κs = search needs
 
 start-wrong-requires : tie.Need-start-wrong-requires
 start-wrong-requires c κs =
@@ -81,8 +82,8 @@ late-requires c κs = search needs
 returns-4 : tie.Need-returns-4
 returns-4 c =
     let at-start = c .before in
-    let at-adds = at-start .before in
-    let at-outcome = at-adds .before in
+    let at-total = at-start .before in
+    let at-outcome = at-total .before in
     let at-if3 = at-outcome .before in
     let at-if2 = at-if3 .before in
     let at-length = at-if2 .before .before in
@@ -94,8 +95,8 @@ returns-4 c =
     let same : due ≡ length s = omega (arith, at-if2 .if2 .left, at-if3 .if3 .left) in
     let whole = by-kind (start .pre .0) same (start .pre .2) in
     c .late .ensures
-    ∙ line-late s (at-byte .byte .result) (due - 2) (at-outcome .outcome-above .result) (at-adds .adds-up .result) (at-start .start-wrong .result)
-    whole (omega arith) (at-outcome .outcome-above .ensures) (at-adds .adds-up .ensures) (at-start .start-wrong .ensures)
+    ∙ line-late s (at-byte .byte .result) (due - 2) (at-outcome .outcome-above .result) (eqb (at-total .total .result) 0) (at-start .start-wrong .result)
+    whole (omega arith) (at-outcome .outcome-above .ensures) (ap (λ (n : ℕ). eqb n 0) (at-total .total .ensures)) (at-start .start-wrong .ensures)
 
 pub spelled-spec : {M : Type 1} → statement M
 spelled-spec =
@@ -107,7 +108,7 @@ spelled-spec =
     returns-2
     returns-3
     outcome-above-requires
-    adds-up-requires
+    total-requires
     start-wrong-requires
     sub-late
     late-requires
