@@ -1,8 +1,8 @@
 -- `put_line` meets its contract: the characters passed stand from place 0, and the LF after the last.
-use mathlib.Core.Path.{_≡_, refl, _∙_}
+use mathlib.Core.Path.{_≡_, refl}
 use Prim.Native.Nat.{_-_, _≤_}
 use native.Mathlib.Omega.{arith}
-use lib.ListN.{length, take, getD, length-set}
+use lib.ListN.{length, take, length-set}
 use Rattle.meaning.specs.Table.{place}
 use Rattle.fields.proofs.FieldLaws.{put-none, put-more, put-last}
 use borrow.Author.Needs.{needs}
@@ -37,7 +37,7 @@ loop-again c =
     let loop = at-loop .loop in
     let d = start .args .d .now in (
       omega arith,
-      length-set (loop .out) (loop .k) (getD d (loop .k) 0) ∙ loop .inv .1,
+      simp length-set (loop .inv .1),
       put-more (start .args .out .now) (loop .out) d (loop .k) (omega arith) (omega arith) (loop .inv .2),
     )
 
