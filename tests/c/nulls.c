@@ -19,7 +19,15 @@ static void expect(const char *what, uint32_t got, uint32_t wanted) {
 
 /* Lines, frames and records: bytes or words of length 0. */
 static void lists(uint8_t *bytes, uint32_t *words) {
-    expect("check", pollencart_check(bytes, 0), POLLENCART_SHAPE);
+    size_t place = UNSET;
+    expect("check_line", pollencart_check_line(bytes, 0, &place), POLLENCART_ODD);
+    expect("its place", (uint32_t)place, 0);
+    place = UNSET;
+    expect("read_line", pollencart_read_line(bytes, 0, words, 0, &place), POLLENCART_ODD);
+    expect("its place", (uint32_t)place, 0);
+    place = UNSET;
+    expect("read_line into no words", pollencart_read_line((const uint8_t *)"0300FD", 6, words, 0, &place), POLLENCART_ROOM);
+    expect("its place", (uint32_t)place, 0);
     expect("kind", pollencart_kind(bytes, 0), 0);
     for (uint32_t i = 0; i < 6; i++) expect("field", pollencart_field(bytes, 0, i), 0);
     expect("field", pollencart_field(bytes, 0, UINT32_MAX), 0);
@@ -73,7 +81,7 @@ static void replays(uint8_t *bytes, uint32_t *words) {
     static const uint8_t journal[] = "0002FE\n";
     static uint32_t table[POLLENCART_TABLE];
     static uint8_t out[POLLENCART_TEXT];
-    const char *bad = "BAD 1 15\n";
+    const char *bad = "BAD 1 15 0\n";
     memset(out, 0, sizeof out);
     uint32_t length = pollencart_replay(bytes, 0, table, POLLENCART_TABLE, out, sizeof out);
     expect("replay of no journal", length, (uint32_t)strlen(bad));

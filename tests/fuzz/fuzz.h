@@ -8,7 +8,8 @@
 #include <string.h>
 #include <sys/mman.h>
 
-uint32_t plain_check(const uint8_t *, size_t);
+uint32_t plain_check_line(const uint8_t *, size_t, size_t *);
+uint32_t plain_read_line(const uint8_t *, size_t, uint32_t *, size_t, size_t *);
 uint32_t plain_kind(const uint8_t *, size_t);
 uint32_t plain_field(const uint8_t *, size_t, uint32_t);
 uint32_t plain_count(const uint32_t *, size_t, uint32_t *, uint32_t *);

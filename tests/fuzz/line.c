@@ -21,6 +21,17 @@ static void write_back(const uint8_t *line, size_t size, int low)
     same(answer == 0 && length == size + 1 && !memcmp(out, line, size) && out[size] == '\n', "a frame written back");
 }
 
+/* read_line into five, six and seven words. */
+static void values(const uint8_t *line, const uint8_t *data, size_t size)
+{
+    for (size_t many = 5; many <= 7; many++) {
+        uint32_t mine[8] = { 1, 2, 3, 4, 5, 6, 7, 8 }, its[8] = { 1, 2, 3, 4, 5, 6, 7, 8 };
+        size_t place = 7, beside = 8;
+        same(pollencart_read_line(line, size, mine, many, &place) == plain_read_line(data, size, its, many, &beside), "read_line");
+        same(place == beside && !memcmp(mine, its, sizeof mine), "its place or words");
+    }
+}
+
 int LLVMFuzzerTestOneInput(const uint8_t *data, size_t size)
 {
     int low = size % 2;
@@ -28,8 +39,11 @@ int LLVMFuzzerTestOneInput(const uint8_t *data, size_t size)
     if (size > 65536)
         return 0;
     memcpy(line, data, size);
-    uint32_t answer = pollencart_check(line, size);
-    same(answer == plain_check(data, size), "check");
+    size_t place = 7, beside = 8;
+    uint32_t answer = pollencart_check_line(line, size, &place);
+    same(answer == plain_check_line(data, size, &beside), "check_line");
+    same(place == beside && place <= size, "its place");
+    values(line, data, size);
     same(pollencart_kind(line, size) == plain_kind(data, size), "kind");
     for (uint32_t i = 0; i < 7; i++)
         same(pollencart_field(line, size, i) == plain_field(data, size, i), "field");

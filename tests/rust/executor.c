@@ -55,15 +55,37 @@ static uint32_t *put(uint32_t *out, const void *from, size_t bytes)
     return out + (bytes + 3) / 4;
 }
 
-/* The answers to a line: check, kind, fields 0 to 5, a field far out, and whether the line stayed. */
+/* The answers of read into this many words: number, place, and the words, which begin as A5A5A5A5. */
+static uint32_t *values(const uint8_t *at, uint32_t size, uint32_t many, uint32_t *out)
+{
+    size_t place = 0xFFFFFFFF;
+    uint32_t *words = (uint32_t *)(void *)lend(&the_list, 0, 4 * (size_t)many);
+    __builtin_memset(words, 0xA5, 4 * (size_t)many);
+    *out++ = pollencart_read_line(at, size, words, many, &place);
+    *out++ = (uint32_t)place;
+    return put(out, words, 4 * (size_t)many);
+}
+
+/* The answers to a line: check and its place, kind, fields 0 to 5, a field far out, what read gives into seven words, its number and place
+ * with five and whether those stayed, and whether the line stayed. */
 static uint32_t *line(const uint32_t *bytes, uint32_t size, uint32_t *out)
 {
     const uint8_t *at = lend(&the_bytes, bytes, size);
-    *out++ = pollencart_check(at, size);
+    size_t place = 0xFFFFFFFF;
+    *out++ = pollencart_check_line(at, size, &place);
+    *out++ = (uint32_t)place;
     *out++ = pollencart_kind(at, size);
     for (uint32_t i = 0; i < 6; i++)
         *out++ = pollencart_field(at, size, i);
     *out++ = pollencart_field(at, size, 0xFFFFFFFF);
+    out = values(at, size, 7, out);
+    uint32_t *few = out;
+    out = values(at, size, 5, out);
+    uint32_t stayed = 1;
+    for (uint32_t i = 2; i < 7; i++)
+        stayed = stayed && few[i] == 0xA5A5A5A5;
+    few[2] = stayed;
+    out = few + 3;
     *out++ = __builtin_memcmp(at, bytes, size) == 0;
     return out;
 }

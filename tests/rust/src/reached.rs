@@ -8,7 +8,7 @@ use std::collections::BTreeMap;
 pub struct Reached(BTreeMap<String, u64>);
 
 /// Everything that a run must have reached at least once.
-const MUST: [&str; 63] = [
+const MUST: [&str; 69] = [
     "fresh 0",
     "fresh 1",
     "write 0",
@@ -52,6 +52,9 @@ const MUST: [&str; 63] = [
     "line 12",
     "line 13",
     "line 15",
+    "line 18",
+    "line 19",
+    "line 20",
     "frame start 0",
     "frame start 15",
     "frame start 17",
@@ -70,6 +73,9 @@ const MUST: [&str; 63] = [
     "replay 14",
     "replay 15",
     "replay 16",
+    "replay 18",
+    "replay 19",
+    "replay 20",
     "replay of 65536 bytes",
     "replay with steps refused",
 ];
