@@ -2,7 +2,7 @@
  *
  * No call keeps state, allocates, or looks at anything but what it is lent. Every input, however wrong, gets a definite answer;
  * a call that refuses answers one of the numbers below. What C must keep, since no call can test it:
- *   - each pointer is valid for as many elements as its length says, those that counts and lengths are stored to for one word;
+ *   - each pointer is valid for as many elements as its length says, those that counts, lengths and places are stored to for one;
  *   - each length is the true one;
  *   - what one call is lent does not overlap, and no other thread writes to it during the call.
  *
@@ -13,6 +13,8 @@
  * A null pointer is allowed where its length is 0, and gets what any list of length 0 gets:
  *   check_line and read_line 18 at place 0 (read_line of a frame into no words 17); kind and field 0; the frame writers 17 (after 15 for n and 2 for the outcome) and the length 0;
  *   fresh, write, session, purge and count_node 1, and counts of 0; summary, acknowledgement, held and record 0;
+ *   apply_line 18 at place 0 and counts of 0 for no line, whatever the table, and 1 for a step's line and no table;
+ *   apply_lines 0, counts of 0 and the places 0 for no lines on a sound table, and 1 with the same zeros for no table;
  *   count 0, and counts of 0; replay the text `BAD 1 15 0` for no journal, and the answer 0 for no table or no out.
  */
 #ifndef POLLENCART_H
@@ -153,6 +155,40 @@ uint32_t pollencart_write(uint32_t *table, size_t table_len, uint8_t node, uint3
 uint32_t pollencart_session(uint32_t *table, size_t table_len, uint8_t a, uint8_t b, uint32_t ca, uint32_t cb, uint8_t outcome,
                             uint32_t *to_a, uint32_t *to_b);
 uint32_t pollencart_purge(uint32_t *table, size_t table_len, uint8_t node, uint32_t *removed);
+
+/* From lines to the table. Both calls read what check_line reads and do what the three actions do, and nothing else; a refusal
+ * changes no word of the table. Lines are those of a table that is there already: a start among them is refused with 15.
+ *
+ * apply_line:  one line, without its LF. Answers 0, or the line's own refusal with its place as check_line gives them (15 at place
+ *              0 also for a start), which comes before anything about the table; then the step's: the first of 1 to 6 that applies,
+ *              with place 0. What the step counts is stored through first and second: for a session what was carried to a and to b,
+ *              for a purge what was removed and 0, for a write 0 and 0. Both are 0 if refused.
+ * apply_lines: many lines, each ended by its LF, one after another, with one look over the table at the beginning. A refused step is
+ *              counted and passed over; the first refused line ends the call, and the steps before it stay applied.
+ *              Answers 0 where the end of the lines was reached, the number of check_line for the refused line, 14 where bytes are
+ *              left that no LF ends. Stores how many steps there were through applied, how many of them were refused through
+ *              refused, through stopped the place where the reading stopped (lines_len at the end, else where the refused line
+ *              begins), and through place the fault's place in that line, from 0: that of check_line, for 14 the number of bytes
+ *              left, 0 at the end. That line is the one numbered *applied + 1, from 1. There is no limit on lines_len.
+ *              A table that is not sound is answered with 1 before any line is read: zeros are stored.
+ *
+ * To go on after a refused line, look for its LF and call again with what follows it:
+ *
+ *   size_t at = 0, applied, refused, stopped, place;
+ *   uint32_t number;
+ *   while ((number = pollencart_apply_lines(table, POLLENCART_TABLE, lines + at, len - at, &applied, &refused, &stopped, &place)) != 0) {
+ *       report(number, lines + at + stopped, place);
+ *       const uint8_t *lf = memchr(lines + at + stopped, '\n', len - at - stopped);
+ *       if (number == POLLENCART_UNSOUND || lf == NULL)
+ *           break;
+ *       at = (size_t)(lf - lines) + 1;
+ *   }
+ *
+ * With 14 the bytes from at + stopped on are the beginning of a line: keep them in front of what comes next. */
+uint32_t pollencart_apply_line(uint32_t *table, size_t table_len, const uint8_t *line, size_t line_len, uint32_t *first, uint32_t *second,
+                               size_t *place);
+uint32_t pollencart_apply_lines(uint32_t *table, size_t table_len, const uint8_t *lines, size_t lines_len, size_t *applied,
+                                size_t *refused, size_t *stopped, size_t *place);
 
 /* Reading a table. Each call answers 0 where there is none: for a table that is not sound, for a node, origin or `of` of n or
  * more, for an index at or beyond the held number, for a word above 3. 0 is also a value that may stand there.

@@ -76,6 +76,33 @@ static void tables(uint32_t *table) {
     expect("touched", touched, 0);
 }
 
+/* Lines and tables of length 0, each with the other there and both. */
+static void lines(uint8_t *bytes, uint32_t *words) {
+    static const uint8_t write[] = "0100000000050000001010DA\n";
+    static uint32_t table[POLLENCART_TABLE];
+    uint32_t first = UNSET, second = UNSET;
+    size_t applied = UNSET, refused = UNSET, stopped = UNSET, place = UNSET;
+    expect("fresh", pollencart_fresh(table, POLLENCART_TABLE, 2), 0);
+    expect("apply_line of no line", pollencart_apply_line(table, POLLENCART_TABLE, bytes, 0, &first, &second, &place), POLLENCART_ODD);
+    expect("its counts and place", first == 0 && second == 0 && place == 0, 1);
+    first = second = UNSET, place = UNSET;
+    expect("apply_line, no table", pollencart_apply_line(words, 0, write, 24, &first, &second, &place), POLLENCART_UNSOUND);
+    expect("its counts and place", first == 0 && second == 0 && place == 0, 1);
+    first = second = UNSET, place = UNSET;
+    expect("apply_line of nothing", pollencart_apply_line(words, 0, bytes, 0, &first, &second, &place), POLLENCART_ODD);
+    expect("its counts and place", first == 0 && second == 0 && place == 0, 1);
+    place = UNSET;
+    expect("apply_lines of no lines", pollencart_apply_lines(table, POLLENCART_TABLE, bytes, 0, &applied, &refused, &stopped, &place), 0);
+    expect("what is stored", applied == 0 && refused == 0 && stopped == 0 && place == 0, 1);
+    applied = refused = stopped = place = UNSET;
+    expect("apply_lines, no table", pollencart_apply_lines(words, 0, write, 25, &applied, &refused, &stopped, &place), POLLENCART_UNSOUND);
+    expect("what is stored", applied == 0 && refused == 0 && stopped == 0 && place == 0, 1);
+    applied = refused = stopped = place = UNSET;
+    expect("apply_lines of nothing", pollencart_apply_lines(words, 0, bytes, 0, &applied, &refused, &stopped, &place), POLLENCART_UNSOUND);
+    expect("what is stored", applied == 0 && refused == 0 && stopped == 0 && place == 0, 1);
+    expect("the table", pollencart_held(table, POLLENCART_TABLE, 0), 0);
+}
+
 /* The replay with each of its three lists of length 0, and with all of them so. */
 static void replays(uint8_t *bytes, uint32_t *words) {
     static const uint8_t journal[] = "0002FE\n";
@@ -100,6 +127,8 @@ int main(void) {
     lists(&byte, &word);
     tables(NULL);
     tables(&word);
+    lines(NULL, NULL);
+    lines(&byte, &word);
     replays(NULL, NULL);
     replays(&byte, &word);
     expect("the lent byte", byte, 'A');

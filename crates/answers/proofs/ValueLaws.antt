@@ -25,10 +25,14 @@ each (Carried a b) = refl
 each (Purged k) = refl
 each (Refused k) = refl
 
--- the first k of the values of a reply that is another
+-- the values of a reply that is another, and the first k of them
+pub all-told : (x y : Reply) → x ≡ y → (a b c : ℕ) → a ≡ getD (replyValues x) 0 0 → b ≡ getD (replyValues x) 1 0 → c ≡ getD (replyValues x) 2 0 →
+    (a ∷ b ∷ c ∷ []) ≡ replyValues y
+all-told x y e a b c p q r = rw (p, q, r, e) (each y)
+
 pub told : (k : ℕ) (x y : Reply) → x ≡ y → (a b c : ℕ) → a ≡ getD (replyValues x) 0 0 → b ≡ getD (replyValues x) 1 0 → c ≡ getD (replyValues x) 2 0 →
     take k (a ∷ b ∷ c ∷ []) ≡ take k (replyValues y)
-told k x y e a b c p q r = rw (p, q, r, e) (ap (take k) (each y))
+told k x y e a b c p q r = ap (take k) (all-told x y e a b c p q r)
 
 -- two lists told and two contents of what was lent, each pair the same
 pub both : {xs ys m us vs n : List ℕ} → xs ≡ m → ys ≡ m → us ≡ n → vs ≡ n → (xs ++ us) ≡ (ys ++ vs)

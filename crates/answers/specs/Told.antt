@@ -5,11 +5,20 @@ use Prim.Native.Nat.{ℕ}
 use lib.ListN.{length, take}
 use Rattle.meaning.specs.declared.Action.{Action}
 use Rattle.meaning.specs.Steps.{reply, after, replyValues}
+use Rattle.meaning.specs.Lines.{lineReply, lineAfter, linesReply, linesAfter, progressValues}
 use Rattle.meaning.specs.Frames.{framedValues, frameReply, frameAfter, startReply, startAfter}
 
 -- of a step: the number, then the counts; and the table at exit
 abbrev pub Stepped : List ℕ → Action → List ℕ → List ℕ → Type 0
 Stepped t x told u = (told ≡ take (length told) (replyValues (reply t x))) × (u ≡ after t x)
+
+-- of a line: the number, then the counts; and the table at exit
+abbrev pub LineTold : List ℕ → List ℕ → List ℕ → List ℕ → Type 0
+LineTold t l told u = (told ≡ replyValues (lineReply t l)) × (u ≡ lineAfter t l)
+
+-- of many lines: the number, the steps, those refused and the place where the reading stopped; and the table at exit
+abbrev pub LinesTold : List ℕ → List ℕ → List ℕ → List ℕ → Type 0
+LinesTold t s told u = (told ≡ progressValues (linesReply t s)) × (u ≡ linesAfter t s)
 
 -- of a step's frame: the number and the length; and the bytes at exit
 abbrev pub Framed : List ℕ → Action → List ℕ → List ℕ → Type 0

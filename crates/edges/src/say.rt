@@ -1,10 +1,8 @@
 // What a case prints: its name, then what the library answered.
 ghost use Prim.Native.Nat.{_≤_};
 ghost use Rattle.meaning.specs.Table.{nodesMost};
-use meaning::Action;
 use meaning::Line;
 use meaning::Reply;
-use meaning::Step;
 
 // A number after its label.
 pub(crate) fn field(label: &[u8], n: u32) {
@@ -18,7 +16,7 @@ fn word(t: &[u32], at: usize) -> u32 {
 }
 
 // A number of all the words: it differs where one word differs.
-fn digest(t: &[u32]) -> u64 {
+pub(crate) fn digest(t: &[u32]) -> u64 {
     let mut sum: u64 = 0;
     let mut i: usize = 0;
     while i < t.len() {
@@ -71,7 +69,7 @@ fn unchanged(before: u64, after: u64) {
 }
 
 // The reply, with the table afterwards.
-fn reply(t: &[u32], name: &[u8], r: Reply, before: u64) {
+pub(crate) fn reply(t: &[u32], name: &[u8], r: Reply, before: u64) {
     match r {
         Reply::Written => line(t, name, 0, 0, 0),
         Reply::Carried { a, b } => line(t, name, 0, a, b),
@@ -81,41 +79,6 @@ fn reply(t: &[u32], name: &[u8], r: Reply, before: u64) {
             unchanged(before, digest(t));
         }
     }
-}
-
-// One action on the table, and what it replied.
-fn act(t: &mut [u32], name: &[u8], action: Action) {
-    let before = digest(t);
-    let r = table::apply(t, Step { line: 2, action });
-    reply(t, name, r, before);
-}
-
-// A write of block 16 with verdict 20.
-pub(crate) fn write(t: &mut [u32], name: &[u8], node: u8, timestamp: u32) {
-    let action = Action::Write {
-        node,
-        timestamp,
-        block: 16,
-        verdict: 0x20,
-    };
-    act(t, name, action);
-}
-
-// A session of 0 with 1.
-pub(crate) fn session(t: &mut [u32], name: &[u8], ca: u32, cb: u32, outcome: u8) {
-    let action = Action::Session {
-        a: 0,
-        b: 1,
-        ca,
-        cb,
-        outcome,
-    };
-    act(t, name, action);
-}
-
-// A purge.
-pub(crate) fn purge(t: &mut [u32], name: &[u8], node: u8) {
-    act(t, name, Action::Purge { node });
 }
 
 // Making a table of n nodes of these words.

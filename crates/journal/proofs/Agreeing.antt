@@ -3,6 +3,7 @@ use mathlib.Core.Path.{_≡_, refl, sym, ap₂, _∙_}
 use mathlib.Core.List.{List, []}
 use Prim.Native.Nat.{ℕ, _-_, _≤_, _<_}
 use native.Mathlib.Omega.{arith}
+use lib.Dec.{eqb}
 use lib.ListN.{getD, take, drop}
 use denote.Ref.{RefT}
 use Rattle.meaning.specs.declared.Next.{Next}
@@ -38,7 +39,7 @@ pub agree : (s : List ℕ) (at line : ℕ) → Agree s at (partAt s at line) (po
 agree s at line = go (nextAt s at line) refl
   where
     go : (x : Next) → nextAt s at line ≡ x → Agree s at (handedBack x (lineAt s at)) (position at x)
-    go (Begin n next) e = went s at next (begun s at line e)
-    go (Act x next) e = went s at next (acted s at line e)
+    go (Begin n next) e = went s at next (begun (eqb at 0) s at line e)
+    go (Act x next) e = went s at next (acted (eqb at 0) s at line e)
     go (Refused k) e = stayed s at
     go End e = stayed s at

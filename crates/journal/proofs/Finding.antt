@@ -14,7 +14,7 @@ use Rattle.meaning.specs.declared.Line.the-variants.{Begin, Act, Refused}
 use Rattle.meaning.specs.declared.Next.{Next}
 use Rattle.meaning.specs.declared.Next.the-variants.{Begin as BeginAt, Act as ActAt, Refused as RefusedAt, End}
 use Rattle.meaning.specs.Frames.{readLine}
-use Rattle.meaning.specs.Journals.{unlessLF, untilLF, hasLF, unended, lineAt, placeAfter, inTurn, nextAt}
+use Rattle.meaning.specs.Journals.{unlessLF, untilLF, hasLF, unended, lineAt, placeAfter, inTurn, nextIn}
 use Rattle.meaning.proofs.JournalLaws.{has-none, until-front, until-short, line-ended, line-none, ended, not-ended}
 use Rattle.meaning.proofs.RowLaws.{and-right}
 use Rattle.journal.specs.declared.Found.the-variants.{Line, Unended, Over}
@@ -113,18 +113,18 @@ pub over-line : (s : List ℕ) (at : ℕ) → foundAt s at ≡ Over → [] ≡ l
 over-line s at e = sym (line-none s at (has-none s at (leb-true (length s) at (over-facts s at e))))
 
 -- what the reader finds, by what the finder found
-pub next-over : (s : List ℕ) (at line : ℕ) → foundAt s at ≡ Over → End ≡ nextAt s at line
-unfolding nextAt
-next-over s at line e = rw (over-facts s at e)
+pub next-over : (first : Bool) (s : List ℕ) (at line : ℕ) → foundAt s at ≡ Over → End ≡ nextIn first s at line
+unfolding nextIn
+next-over first s at line e = rw (over-facts s at e)
 
-pub next-unended : (s : List ℕ) (at line : ℕ) → foundAt s at ≡ Unended → RefusedAt 14 ≡ nextAt s at line
-unfolding nextAt
-next-unended s at line e = rw (unended-facts s at e .0, unended-facts s at e .1)
+pub next-unended : (first : Bool) (s : List ℕ) (at line : ℕ) → foundAt s at ≡ Unended → RefusedAt 14 ≡ nextIn first s at line
+unfolding nextIn
+next-unended first s at line e = rw (unended-facts s at e .0, unended-facts s at e .1)
 
-pub next-line : (s : List ℕ) (at end line : ℕ) → foundAt s at ≡ Line end
-    → inTurn (eqb at 0) (end + 1) (readLine line (take (end - at) (drop at s))) ≡ nextAt s at line
-unfolding nextAt
-next-line s at end line e =
+pub next-line : (first : Bool) (s : List ℕ) (at end line : ℕ) → foundAt s at ≡ Line end
+    → inTurn first (end + 1) (readLine line (take (end - at) (drop at s))) ≡ nextIn first s at line
+unfolding nextIn
+next-line first s at end line e =
     let x = line-facts s at end e in
     rw (x .left, x .has, x .part, x .after)
 
@@ -137,25 +137,25 @@ turn-goes false k (Begin n) e = cc
 turn-goes false k (Act x) e = cc
 turn-goes false k (Refused j) e = cc
 
-pub refused-inside : (s : List ℕ) (at line : ℕ) {k : ℕ} → nextAt s at line ≡ RefusedAt k → leb (length s) at ≡ false
-unfolding nextAt
-refused-inside s at line {k} e = go (leb (length s) at) refl e
+pub refused-inside : (first : Bool) (s : List ℕ) (at line : ℕ) {k : ℕ} → nextIn first s at line ≡ RefusedAt k → leb (length s) at ≡ false
+unfolding nextIn
+refused-inside first s at line {k} e = go (leb (length s) at) refl e
   where
     go : (a : Bool) → leb (length s) at ≡ a
-        → cond a End (cond (unended s at) (RefusedAt 14) (inTurn (eqb at 0) (placeAfter s at) (readLine line (lineAt s at)))) ≡ RefusedAt k
+        → cond a End (cond (unended s at) (RefusedAt 14) (inTurn first (placeAfter s at) (readLine line (lineAt s at)))) ≡ RefusedAt k
         → leb (length s) at ≡ false
     go true p r = never (cc)
     go false p r = p
 
-pub end-over : (s : List ℕ) (at line : ℕ) → nextAt s at line ≡ End → leb (length s) at ≡ true
-unfolding nextAt
-end-over s at line e = go (leb (length s) at) (unended s at) refl e
+pub end-over : (first : Bool) (s : List ℕ) (at line : ℕ) → nextIn first s at line ≡ End → leb (length s) at ≡ true
+unfolding nextIn
+end-over first s at line e = go (leb (length s) at) (unended s at) refl e
   where
     go : (a b : Bool) → leb (length s) at ≡ a
-        → cond a End (cond b (RefusedAt 14) (inTurn (eqb at 0) (placeAfter s at) (readLine line (lineAt s at)))) ≡ End → leb (length s) at ≡ true
+        → cond a End (cond b (RefusedAt 14) (inTurn first (placeAfter s at) (readLine line (lineAt s at)))) ≡ End → leb (length s) at ≡ true
     go true b p r = p
     go false true p r = never (cc)
-    go false false p r = never (turn-goes (eqb at 0) (placeAfter s at) (readLine line (lineAt s at)) r)
+    go false false p r = never (turn-goes first (placeAfter s at) (readLine line (lineAt s at)) r)
 
 -- a refused line is refused in any turn
 pub turn-refused : (first : Bool) (k j : ℕ) → RefusedAt j ≡ inTurn first k (Refused j)
@@ -199,23 +199,23 @@ until-lf (c ∷ cs) e = go (eqb c 10) refl e (until-lf cs)
 ended-lf : (s : List ℕ) (at end : ℕ) → hasLF (drop at s) ≡ true → at + length (untilLF (drop at s)) ≡ end → getD s end 0 ≡ 10
 ended-lf s at end h e = ap (λ (i : ℕ). getD s i 0) (sym e) ∙ sym (getD-drop at s (length (untilLF (drop at s))) 0) ∙ until-lf (drop at s) h
 
-passed : (s : List ℕ) (at line next : ℕ) (x : Next) → nextAt s at line ≡ x → onTo next x ≡ true → Passed s at next
-unfolding nextAt placeAfter
-passed s at line next x e on = go (leb (length s) at) (unended s at) refl refl e
+passed : (first : Bool) (s : List ℕ) (at line next : ℕ) (x : Next) → nextIn first s at line ≡ x → onTo next x ≡ true → Passed s at next
+unfolding nextIn placeAfter
+passed first s at line next x e on = go (leb (length s) at) (unended s at) refl refl e
   where
     go : (a b : Bool) → leb (length s) at ≡ a → unended s at ≡ b
-        → cond a End (cond b (RefusedAt 14) (inTurn (eqb at 0) (placeAfter s at) (readLine line (lineAt s at)))) ≡ x → Passed s at next
+        → cond a End (cond b (RefusedAt 14) (inTurn first (placeAfter s at) (readLine line (lineAt s at)))) ≡ x → Passed s at next
     go true b p q r = never (cc)
     go false true p q r = never (cc)
     go false false p q r =
-        let k : placeAfter s at ≡ next = turn-on (eqb at 0) (placeAfter s at) next (readLine line (lineAt s at)) (ap (onTo next) r ∙ on) in
+        let k : placeAfter s at ≡ next = turn-on first (placeAfter s at) next (readLine line (lineAt s at)) (ap (onTo next) r ∙ on) in
         let f : Ended s at (next - 1) = ended-facts s at (next - 1) p q (omega arith) in
         let has : hasLF (drop at s) ≡ true = ended-has s at (leb-false (length s) at p) q in
         let len : length (lineAt s at) ≡ length (untilLF (drop at s)) = ap length (line-ended s at has) in
         record { start = omega arith; within = omega arith; part = f .part; left = p; lf = ended-lf s at (next - 1) has (omega arith) }
 
-pub begun : (s : List ℕ) (at line : ℕ) {n next : ℕ} → nextAt s at line ≡ BeginAt n next → Passed s at next
-begun s at line {n} {next} e = passed s at line next (BeginAt n next) e (eq-eqb next next refl)
+pub begun : (first : Bool) (s : List ℕ) (at line : ℕ) {n next : ℕ} → nextIn first s at line ≡ BeginAt n next → Passed s at next
+begun first s at line {n} {next} e = passed first s at line next (BeginAt n next) e (eq-eqb next next refl)
 
-pub acted : (s : List ℕ) (at line : ℕ) {x : Step} {next : ℕ} → nextAt s at line ≡ ActAt x next → Passed s at next
-acted s at line {x} {next} e = passed s at line next (ActAt x next) e (eq-eqb next next refl)
+pub acted : (first : Bool) (s : List ℕ) (at line : ℕ) {x : Step} {next : ℕ} → nextIn first s at line ≡ ActAt x next → Passed s at next
+acted first s at line {x} {next} e = passed first s at line next (ActAt x next) e (eq-eqb next next refl)

@@ -11,7 +11,7 @@ use Rattle.meaning.specs.declared.Line.{Line}
 use Rattle.meaning.specs.declared.Line.the-variants.{Begin, Act, Refused}
 use Rattle.meaning.specs.declared.Next.the-variants.{Refused as RefusedAt, End}
 use Rattle.meaning.specs.Frames.{kindOf, fieldsOf, readLine, lineValues}
-use Rattle.meaning.specs.Journals.{unended, lineAt, placeAfter, inTurn, nextAt, nextValues}
+use Rattle.meaning.specs.Journals.{unended, lineAt, placeAfter, inTurn, nextIn, nextAt, nextValues}
 use Rattle.journal.specs.Found.{foundAt, foundValues, turnValues, readValues}
 use Rattle.journal.specs.declared.Found.the-variants.{Line as Ended, Unended, Over}
 
@@ -48,7 +48,7 @@ turn-values false next (Refused zero) = refl
 turn-values false next (Refused (suc k)) = refl
 
 pub next-values : (s : List ℕ) (at line : ℕ) → nextValues (nextAt s at line) ≡ readValues s at line
-unfolding nextAt
+unfolding nextIn
 next-values s at line = go (leb (length s) at) (unended s at)
   where
     go : (a b : Bool)

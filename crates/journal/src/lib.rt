@@ -1,7 +1,8 @@
 // The journal reader on a slice and a place: the line there, what it says, its part and the place after it.
 // Document 01, "Frames and journals".
 ghost use mathlib.Core.Path.{_≡_};
-ghost use Rattle.meaning.specs.Journals.{lineAt, nextAt, inTurn};
+ghost use Rattle.meaning.specs.Frames.{readLine};
+ghost use Rattle.meaning.specs.Journals.{lineAt, nextIn, nextAt, inTurn};
 ghost use Rattle.journal.specs.Found.{foundAt};
 ghost use Rattle.journal.specs.Parts.{Part, partAt, positionAt};
 use meaning::Line;
@@ -68,18 +69,30 @@ fn in_turn(first: bool, next: usize, said: Line) -> Next
     }
 }
 
-// What the reader finds at a place, told the line number: "the line read at place 0 is the first, and no other is".
-pub fn next_at(s: &[u8], at: usize, line: usize) -> Next
-    ensures { λ r. ⌜ r ≡ nextAt (now (s .entry)) at line ⌝ }
+// What a line says in its turn, with the place after it. The one caller of `read_line`, which is then compiled into it.
+pub fn said(line: &[u8], number: usize, first: bool, next: usize) -> Next
+    ensures { λ r. ⌜ r ≡ inTurn first next (readLine number (now (line .entry))) ⌝ }
+{
+    let what = reading::read_line(line, number);
+    in_turn(first, next, what)
+}
+
+// What the reader finds at a place, told the line number and whether the line there is the first.
+pub fn next_in(s: &[u8], at: usize, line: usize, first: bool) -> Next
+    ensures { λ r. ⌜ r ≡ nextIn first (now (s .entry)) at line ⌝ }
 {
     match find(s, at) {
         Found::Over => Next::End,
         Found::Unended => Next::Refused { number: 14 },
-        Found::Line { end } => {
-            let said = reading::read_line(&s[at..end], line);
-            in_turn(at == 0, end + 1, said)
-        }
+        Found::Line { end } => said(&s[at..end], line, first, end + 1),
     }
+}
+
+// In a journal "the line read at place 0 is the first, and no other is".
+pub fn next_at(s: &[u8], at: usize, line: usize) -> Next
+    ensures { λ r. ⌜ r ≡ nextAt (now (s .entry)) at line ⌝ }
+{
+    next_in(s, at, line, at == 0)
 }
 
 // "hands back each line ..; with a refusal the part is empty"

@@ -14,7 +14,7 @@ use Rattle.meaning.specs.declared.Next.{Next}
 use Rattle.meaning.specs.declared.Next.the-variants.{Begin as BeginAt, Act as ActAt, Refused as RefusedAt, End}
 use Rattle.meaning.specs.Table.{nodesMost, countRight, fresh}
 use Rattle.meaning.specs.Frames.{bytesOf, lineKind, lineFields, lineRefusal, meant, lineIs, readLine}
-use Rattle.meaning.specs.Journals.{unended, lineAt, placeAfter, inTurn, nextAt, journal, startedFrom, afterAll, replayAfter}
+use Rattle.meaning.specs.Journals.{unended, lineAt, placeAfter, inTurn, nextIn, nextAt, journal, startedFrom, afterAll, replayAfter}
 use Rattle.meaning.specs.Account.{events, run}
 use Rattle.meaning.proofs.FrameLaws.{good}
 use Rattle.meaning.proofs.RowLaws.{and-left, and-right}
@@ -60,15 +60,15 @@ cond-right : (b : Bool) (x y : Next) → nextRight x ≡ true → nextRight y �
 cond-right true x y p q = p
 cond-right false x y p q = q
 
-next-right : (s : List ℕ) (at line : ℕ) → nextRight (nextAt s at line) ≡ true
-unfolding nextAt
-next-right s at line =
+next-right : (first : Bool) (s : List ℕ) (at line : ℕ) → nextRight (nextIn first s at line) ≡ true
+unfolding nextIn
+next-right first s at line =
     cond-right (leb (length s) at) End _ refl
     (cond-right (unended s at) (RefusedAt 14) _ refl
-    (inTurn-right (eqb at 0) (placeAfter s at) (readLine line (lineAt s at)) (line-right line (lineAt s at))))
+    (inTurn-right first (placeAfter s at) (readLine line (lineAt s at)) (line-right line (lineAt s at))))
 
-pub begin-right : (s : List ℕ) (at line : ℕ) {n next : ℕ} → nextAt s at line ≡ BeginAt n next → countRight n ≡ true
-begin-right s at line e = sym (ap nextRight e) ∙ next-right s at line
+pub begin-right : (first : Bool) (s : List ℕ) (at line : ℕ) {n next : ℕ} → nextIn first s at line ≡ BeginAt n next → countRight n ≡ true
+begin-right first s at line e = sym (ap nextRight e) ∙ next-right first s at line
 
 -- a journal has no start, or one of 2 to 16 nodes
 journal-right-at : (s : List ℕ) (x : Next) → nextAt s 0 1 ≡ x → nextRight x ≡ true → (journal s .n ≡ 0) ⊎ (countRight (journal s .n) ≡ true)
@@ -79,7 +79,7 @@ journal-right-at s (RefusedAt k) e h = rw (e, journal) (inl refl)
 journal-right-at s End e h = rw (e, journal) (inl refl)
 
 pub journal-right : (s : List ℕ) → (journal s .n ≡ 0) ⊎ (countRight (journal s .n) ≡ true)
-journal-right s = journal-right-at s (nextAt s 0 1) refl (next-right s 0 1)
+journal-right s = journal-right-at s (nextAt s 0 1) refl (next-right true s 0 1)
 
 pub started : (n : ℕ) (t : List ℕ) → 0 < n → startedFrom n t ≡ fresh n
 started zero t h = absurd (omega arith)

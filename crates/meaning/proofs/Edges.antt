@@ -68,7 +68,7 @@ use Rattle.meaning.specs.Journals.{
   unended,
   lineAt,
   placeAfter,
-  nextAt,
+  nextIn,
   stepsFrom,
   journal,
   afterAll,
@@ -175,7 +175,7 @@ pub rows : List Row
 unfolding every keep least raise covers newer above recordAt records words part place count held node lay pieces putNode fresh recordSound
     logSound sound own wrote opened finished purged refusals refusal limit acted reported reply after digit
     digitValue spelled bytesOf allDigits total check journalKinds knownIn widthsIn digitsIn highFirst number packed unpacked actionOf sealed
-    frameIn frame startFrame lineKind fieldsIn first fieldTests lineTests lineRefusal readLine untilLF hasLF unended lineAt placeAfter nextAt
+    frameIn frame startFrame lineKind fieldsIn first fieldTests lineTests lineRefusal readLine untilLF hasLF unended lineAt placeAfter nextIn
     stepsFrom journal afterAll refusedOf replayed replayAfter decimalIn decimal spaced said nodeLine nodeLines printed classOf scrubbed touched
     counted countRefusal verdictCount changes does refused reached verdict line example same Holds
 rows =

@@ -15,7 +15,7 @@ use Rattle.meaning.specs.declared.Line.the-variants.{Begin, Act, Refused
 use Rattle.meaning.specs.declared.Next.{Next}
 use Rattle.meaning.specs.declared.Next.the-variants.{Begin as BeginAt, Act as ActAt, Refused as RefusedAt, End}
 use Rattle.meaning.specs.Frames.{bytesOf, lineKind, lineRefusal, meant, lineIs, readLine}
-use Rattle.meaning.specs.Journals.{unlessLF, untilLF, hasLF, unended, lineAt, placeAfter, inTurn, nextAt, none, broken, step∷, stepsFrom}
+use Rattle.meaning.specs.Journals.{unlessLF, untilLF, hasLF, unended, lineAt, placeAfter, inTurn, nextIn, none, broken, step∷, stepsFrom}
 
 -- an LF at a place; another byte there; nothing at the end or beyond
 module _ (s : List ℕ) (i : ℕ) (h : i < length s) where
@@ -84,22 +84,53 @@ not-ended s at h e = rw (lt-ltb at (length s) h, e)
 
 -- the steps from a place on, by what stands there
 module _ (k : ℕ) (s : List ℕ) (at line : ℕ) where
-  pub steps-act : {x : Step} {next : ℕ} → nextAt s at line ≡ ActAt x next → stepsFrom (suc k) s at line ≡ step∷ x (stepsFrom k s next (line + 1))
+  pub steps-act : {x : Step} {next : ℕ} → nextIn false s at line ≡ ActAt x next → stepsFrom (suc k) s at line ≡ step∷ x (stepsFrom k s next (line + 1))
   unfolding stepsFrom
   steps-act e = rw (e, stepsFrom)
 
-  pub steps-begin : {n next : ℕ} → nextAt s at line ≡ BeginAt n next → stepsFrom (suc k) s at line ≡ broken line 15
+  pub steps-begin : {n next : ℕ} → nextIn false s at line ≡ BeginAt n next → stepsFrom (suc k) s at line ≡ broken at line 15
   unfolding stepsFrom
   steps-begin e = rw (e, stepsFrom)
 
-  pub steps-refused : {j : ℕ} → nextAt s at line ≡ RefusedAt j → stepsFrom (suc k) s at line ≡ broken line j
+  pub steps-refused : {j : ℕ} → nextIn false s at line ≡ RefusedAt j → stepsFrom (suc k) s at line ≡ broken at line j
   unfolding stepsFrom
   steps-refused e = rw (e, stepsFrom)
 
-pub steps-end : (k : ℕ) (s : List ℕ) (at line : ℕ) → nextAt s at line ≡ End → stepsFrom k s at line ≡ none
+pub steps-end : (k : ℕ) (s : List ℕ) (at line : ℕ) → nextIn false s at line ≡ End → stepsFrom k s at line ≡ none at
 unfolding stepsFrom
 steps-end zero s at line e = refl
 steps-end (suc k) s at line e = rw (e, stepsFrom)
+
+-- the steps are no more than their bound, and a refused line is the next after them
+pub steps-few : (k : ℕ) (s : List ℕ) (at line : ℕ) → length (stepsFrom k s at line .steps) ≤ k
+unfolding stepsFrom
+steps-few zero s at line = omega arith
+steps-few (suc k) s at line = go (nextIn false s at line) refl (λ next. steps-few k s next (line + 1))
+  where
+    go : (x : Next) → nextIn false s at line ≡ x → ((next : ℕ) → length (stepsFrom k s next (line + 1) .steps) ≤ k)
+        → length (stepsFrom (suc k) s at line .steps) ≤ suc k
+    go (BeginAt n next) e few = rw (steps-begin k s at line e) (omega arith)
+    go (ActAt x next) e few = let l = few next in rw (steps-act k s at line e) (omega arith)
+    go (RefusedAt j) e few = rw (steps-refused k s at line e) (omega arith)
+    go End e few = rw (steps-end (suc k) s at line e) (omega arith)
+
+pub bad-line : (k : ℕ) (s : List ℕ) (at line : ℕ) → 0 < stepsFrom k s at line .badNumber
+    → stepsFrom k s at line .badLine ≡ line + length (stepsFrom k s at line .steps)
+unfolding stepsFrom
+bad-line zero s at line h = absurd (omega arith)
+bad-line (suc k) s at line h = go (nextIn false s at line) refl h (λ next. bad-line k s next (line + 1))
+  where
+    go : (x : Next) → nextIn false s at line ≡ x → 0 < stepsFrom (suc k) s at line .badNumber
+        → ((next : ℕ) → 0 < stepsFrom k s next (line + 1) .badNumber
+        → stepsFrom k s next (line + 1) .badLine ≡ line + 1 + length (stepsFrom k s next (line + 1) .steps))
+        → stepsFrom (suc k) s at line .badLine ≡ line + length (stepsFrom (suc k) s at line .steps)
+    go (BeginAt n next) e b rest = rw (steps-begin k s at line e) (omega arith)
+    go (ActAt x next) e b rest =
+        let d = steps-act k s at line e in
+        let l = rest next (rw d at b) in
+        rw d (omega arith)
+    go (RefusedAt j) e b rest = rw (steps-refused k s at line e) (omega arith)
+    go End e b rest = absurd (let z : 0 < 0 = rw (steps-end (suc k) s at line e) at b in omega arith)
 
 -- a line's refusal has a number
 abbrev lineNumbered : Line → Bool
@@ -126,16 +157,16 @@ turn-numbered false next (Begin n) h = refl
 turn-numbered false next (Act x) h = refl
 turn-numbered false next (Refused k) h = h
 
-next-numbered : (s : List ℕ) (at line : ℕ) → nextNumbered (nextAt s at line) ≡ true
-unfolding nextAt readLine
-next-numbered s at line = go (leb (length s) at) (unended s at)
+next-numbered : (first : Bool) (s : List ℕ) (at line : ℕ) → nextNumbered (nextIn first s at line) ≡ true
+unfolding nextIn readLine
+next-numbered first s at line = go (leb (length s) at) (unended s at)
   where
-    go : (a b : Bool) → nextNumbered (cond a End (cond b (RefusedAt 14) (inTurn (eqb at 0) (placeAfter s at) (readLine line (lineAt s at))))) ≡ true
+    go : (a b : Bool) → nextNumbered (cond a End (cond b (RefusedAt 14) (inTurn first (placeAfter s at) (readLine line (lineAt s at))))) ≡ true
     go true b = refl
     go false true = refl
     go false false =
-        turn-numbered (eqb at 0) (placeAfter s at) (readLine line (lineAt s at))
+        turn-numbered first (placeAfter s at) (readLine line (lineAt s at))
         (meant-numbered line (bytesOf (lineAt s at)) (eqb (lineKind (bytesOf (lineAt s at))) 0) (lineRefusal (lineAt s at)))
 
-pub refused-numbered : (s : List ℕ) (at line k : ℕ) → nextAt s at line ≡ RefusedAt k → 0 < k
-refused-numbered s at line k e = ltb-true 0 k (sym (ap nextNumbered e) ∙ next-numbered s at line)
+pub refused-numbered : (first : Bool) (s : List ℕ) (at line k : ℕ) → nextIn first s at line ≡ RefusedAt k → 0 < k
+refused-numbered first s at line k e = ltb-true 0 k (sym (ap nextNumbered e) ∙ next-numbered first s at line)

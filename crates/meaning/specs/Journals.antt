@@ -42,7 +42,7 @@ lineAt s at = cond (hasLF (drop at s)) (untilLF (drop at s)) []
 unfoldable pub placeAfter : List ℕ → ℕ → ℕ
 placeAfter s at = at + (length (lineAt s at) + 1)
 
--- 15: "the first line is no start, a later line is one"; "the line read at place 0 is the first, and no other is"
+-- 15: "the first line is no start, a later line is one"
 abbrev pub inTurn : Bool → ℕ → Line → Next
 inTurn true next (Begin n) = BeginAt n next
 inTurn true next (Act s) = RefusedAt 15
@@ -51,11 +51,14 @@ inTurn false next (Begin n) = RefusedAt 15
 inTurn false next (Act s) = ActAt s next
 inTurn false next (Refused k) = RefusedAt k
 
--- What the reader finds at a place, told the line number. "At the end or beyond it says so."
-unfoldable pub nextAt : List ℕ → ℕ → ℕ → Next
-nextAt s at line =
-    cond (leb (length s) at) End
-    (cond (unended s at) (RefusedAt 14) (inTurn (eqb at 0) (placeAfter s at) (readLine line (lineAt s at))))
+-- What the reader finds at a place, told whether the line there is the first, and the line number. "At the end or beyond it says so."
+unfoldable pub nextIn : Bool → List ℕ → ℕ → ℕ → Next
+nextIn first s at line =
+    cond (leb (length s) at) End (cond (unended s at) (RefusedAt 14) (inTurn first (placeAfter s at) (readLine line (lineAt s at))))
+
+-- In a journal "the line read at place 0 is the first, and no other is"
+abbrev pub nextAt : List ℕ → ℕ → ℕ → Next
+nextAt s at line = nextIn (eqb at 0) s at line
 
 -- Document 01's values of each answer: the refusal (0 for none), then the kind, the fields and the next place of a start or a step
 abbrev pub nextValues : Next → List ℕ
@@ -78,30 +81,32 @@ position at (ActAt s next) = next
 position at (RefusedAt k) = at
 position at End = at
 
--- The steps from a place on, up to the end or the first refused line: its number and line, 0 and 0 where there is none.
+-- The steps from a place on, up to the end or the first refused line: its number and line, 0 and 0 where there is none; and the place where the
+-- reading stopped, at the refused line's start or where the end was found. No line among them is a first one.
 -- The first argument bounds the lines still to come.
 pub record Steps : Type 0 where
   pub steps : List Step
   pub badLine : ℕ
   pub badNumber : ℕ
+  pub stop : ℕ
 
-abbrev pub none : Steps
-none = record { steps = []; badLine = 0; badNumber = 0 }
+abbrev pub none : ℕ → Steps
+none at = record { steps = []; badLine = 0; badNumber = 0; stop = at }
 
-abbrev pub broken : ℕ → ℕ → Steps
-broken line k = record { steps = []; badLine = line; badNumber = k }
+abbrev pub broken : ℕ → ℕ → ℕ → Steps
+broken at line k = record { steps = []; badLine = line; badNumber = k; stop = at }
 
 abbrev pub step∷ : Step → Steps → Steps
-step∷ s x = record { steps = s ∷ x .steps; badLine = x .badLine; badNumber = x .badNumber }
+step∷ s x = record { steps = s ∷ x .steps; badLine = x .badLine; badNumber = x .badNumber; stop = x .stop }
 
 unfoldable pub stepsFrom : ℕ → List ℕ → ℕ → ℕ → Steps
-stepsFrom zero s at line = none
+stepsFrom zero s at line = none at
 stepsFrom (suc k) s at line =
-    elim (nextAt s at line) [
-      | BeginAt n next ↦ broken line 15
+    elim (nextIn false s at line) [
+      | BeginAt n next ↦ broken at line 15
       | ActAt x next ↦ step∷ x (stepsFrom k s next (line + 1))
-      | RefusedAt j ↦ broken line j
-      | End ↦ none
+      | RefusedAt j ↦ broken at line j
+      | End ↦ none at
     ]
 
 -- A journal: its start's n (0 without one) and its steps. "An empty journal gives BAD 1 15."
@@ -113,9 +118,9 @@ unfoldable pub journal : List ℕ → Journal
 journal s =
     elim (nextAt s 0 1) [
       | BeginAt n next ↦ record { n = n; rest = stepsFrom (length s) s next 2 }
-      | ActAt x next ↦ record { n = 0; rest = broken 1 15 }
-      | RefusedAt k ↦ record { n = 0; rest = broken 1 k }
-      | End ↦ record { n = 0; rest = broken 1 15 }
+      | ActAt x next ↦ record { n = 0; rest = broken 0 1 15 }
+      | RefusedAt k ↦ record { n = 0; rest = broken 0 1 k }
+      | End ↦ record { n = 0; rest = broken 0 1 15 }
     ]
 
 -- "applies its steps to a fresh table; a refused step is counted and passed over"

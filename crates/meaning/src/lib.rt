@@ -78,6 +78,15 @@ pub enum Outcome {
     },
 }
 
+// How far lines came on a table: the steps applied, how many of them were refused, the place where the reading stopped,
+// and the number of the refused line, 0 at the end.
+pub struct Progress {
+    pub steps: usize,
+    pub refused: usize,
+    pub stop: usize,
+    pub number: u32,
+}
+
 // The class of a verdict byte.
 pub enum Class {
     NotRead,

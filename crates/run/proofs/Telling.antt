@@ -37,9 +37,9 @@ begun-or-bad : (s : List ℕ) → (countRight (journal s .n) ≡ true) ⊎ (0 < 
 begun-or-bad s = go (nextAt s 0 1) refl
   where
     go : (x : Next) → nextAt s 0 1 ≡ x → (countRight (journal s .n) ≡ true) ⊎ (0 < journal s .rest .badNumber)
-    go (BeginAt n next) e = inl (ap (λ (j : Journal). countRight (j .n)) (begin-is s e) ∙ begin-right s 0 1 e)
+    go (BeginAt n next) e = inl (ap (λ (j : Journal). countRight (j .n)) (begin-is s e) ∙ begin-right true s 0 1 e)
     go (ActAt x next) e = inr (omega (arith, ap (λ (j : Journal). j .rest .badNumber) (act-is s e)))
-    go (RefusedAt k) e = inr (omega (arith, ap (λ (j : Journal). j .rest .badNumber) (refused-is s e), refused-numbered s 0 1 k e))
+    go (RefusedAt k) e = inr (omega (arith, ap (λ (j : Journal). j .rest .badNumber) (refused-is s e), refused-numbered true s 0 1 k e))
     go End e = inr (omega (arith, ap (λ (j : Journal). j .rest .badNumber) (end-is s e)))
 
 -- with a start, the replay begins from the fresh table, whatever was lent

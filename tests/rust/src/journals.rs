@@ -70,7 +70,7 @@ fn make_exact(bytes: &[u8], left: usize) -> Option<Vec<u8>> {
 }
 
 /// Damages a journal's lines in one of many ways, or, as often, in none.
-fn damage(rng: &mut Random, journal: &mut Vec<Vec<u8>>) {
+pub fn damage(rng: &mut Random, journal: &mut Vec<Vec<u8>>) {
     let many = journal.len() as u32;
     let at = rng.below(many) as usize;
     match rng.below(24) {

@@ -368,6 +368,45 @@ pub fn lines(journal: &[u8]) -> (Vec<Frame>, Option<Fault>) {
     (frames, empty)
 }
 
+/// One line on a table (none: words of a wrong length): the number, the two counts and the place in the line. The line's refusal
+/// comes first, then 15 for a start, then the step's, which has no place.
+pub fn apply_line(table: Option<&mut Table>, line: &[u8]) -> [u32; 4] {
+    let action = match read(line) {
+        Err(Fault { number, place }) => return [number, 0, 0, place as u32],
+        Ok(Frame::Start(_)) => return [15, 0, 0, 0],
+        Ok(Frame::Step(action)) => action,
+    };
+    let Some(table) = table else { return [1, 0, 0, 0] };
+    let reply = table.apply(action);
+    match action {
+        Action::Purge { .. } => [reply.refusal, reply.removed, 0, 0],
+        _ => [reply.refusal, reply.to_a, reply.to_b, 0],
+    }
+}
+
+/// Many lines on a table, up to the first refused one: its number, the steps, those refused, where the reading stopped and the place
+/// in the line there.
+pub fn apply_lines(table: Option<&mut Table>, lines: &[u8]) -> [u32; 5] {
+    let Some(table) = table.filter(|table| table.sound()) else { return [1, 0, 0, 0, 0] };
+    let (mut rest, mut steps, mut refused) = (lines, 0, 0);
+    let (number, place) = loop {
+        if rest.is_empty() {
+            break (0, 0);
+        }
+        let Some(end) = rest.iter().position(|&c| c == b'\n') else { break (14, rest.len()) };
+        match read(&rest[..end]) {
+            Err(Fault { number, place }) => break (number, place),
+            Ok(Frame::Start(_)) => break (15, 0),
+            Ok(Frame::Step(action)) => {
+                steps += 1;
+                refused += u32::from(table.apply(action).refusal != 0);
+                rest = &rest[end + 1..];
+            }
+        }
+    };
+    [number, steps, refused, (lines.len() - rest.len()) as u32, place as u32]
+}
+
 /// What the replay program prints for a journal, and the table that the steps before a refused line,
 /// or all of them, leave; none where no start is read.
 pub fn replay(journal: &[u8]) -> (String, Option<Table>) {

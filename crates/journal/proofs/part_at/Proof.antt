@@ -3,6 +3,7 @@ use mathlib.Core.Path.{refl, sym, _∙_}
 use native.Mathlib.Omega.{arith}
 use borrow.Author.Needs.{needs}
 use borrow.Author.Tests.{leb-false}
+use lib.Dec.{eqb}
 use lib.ListN.{length}
 use denote.Ref.{now}
 use Rattle.journal.proofs.Finding.{none-taken, begun, acted, refused-inside, end-over}
@@ -20,7 +21,7 @@ sub-result c =
     let at-next = c .before in
     let at-call = at-next .before .before in
     let a = at-call .before .before .args in
-    let f = begun (now (a .s)) (a .at) (a .line) (sym (at-call .next-at .ensures) ∙ at-next .next .given .1) in
+    let f = begun (eqb (a .at) 0) (now (a .s)) (a .at) (a .line) (sym (at-call .next-at .ensures) ∙ at-next .next .given .1) in
     omega arith
 
 sub-result-2 : tie.Need-sub-result-2
@@ -28,7 +29,7 @@ sub-result-2 c =
     let at-next = c .before in
     let at-call = at-next .before .before in
     let a = at-call .before .before .args in
-    let f = begun (now (a .s)) (a .at) (a .line) (sym (at-call .next-at .ensures) ∙ at-next .next .given .1) in
+    let f = begun (eqb (a .at) 0) (now (a .s)) (a .at) (a .line) (sym (at-call .next-at .ensures) ∙ at-next .next .given .1) in
     omega arith
 
 part-result-start : tie.Need-part-result-start
@@ -36,7 +37,7 @@ part-result-start c =
     let at-next = c .before in
     let at-call = at-next .before .before in
     let a = at-call .before .before .args in
-    let f = begun (now (a .s)) (a .at) (a .line) (sym (at-call .next-at .ensures) ∙ at-next .next .given .1) in
+    let f = begun (eqb (a .at) 0) (now (a .s)) (a .at) (a .line) (sym (at-call .next-at .ensures) ∙ at-next .next .given .1) in
     omega arith
 
 part-result-end : tie.Need-part-result-end
@@ -44,7 +45,7 @@ part-result-end c =
     let at-next = c .before in
     let at-call = at-next .before .before in
     let a = at-call .before .before .args in
-    let f = begun (now (a .s)) (a .at) (a .line) (sym (at-call .next-at .ensures) ∙ at-next .next .given .1) in
+    let f = begun (eqb (a .at) 0) (now (a .s)) (a .at) (a .line) (sym (at-call .next-at .ensures) ∙ at-next .next .given .1) in
     omega arith
 
 enum-known-next-2 : tie.Need-enum-known-next-2
@@ -55,7 +56,7 @@ sub-result-3 c =
     let at-next = c .before in
     let at-call = at-next .before .before in
     let a = at-call .before .before .args in
-    let f = acted (now (a .s)) (a .at) (a .line) (sym (at-call .next-at .ensures) ∙ at-next .next2 .given .1) in
+    let f = acted (eqb (a .at) 0) (now (a .s)) (a .at) (a .line) (sym (at-call .next-at .ensures) ∙ at-next .next2 .given .1) in
     omega arith
 
 sub-result-4 : tie.Need-sub-result-4
@@ -63,7 +64,7 @@ sub-result-4 c =
     let at-next = c .before in
     let at-call = at-next .before .before in
     let a = at-call .before .before .args in
-    let f = acted (now (a .s)) (a .at) (a .line) (sym (at-call .next-at .ensures) ∙ at-next .next2 .given .1) in
+    let f = acted (eqb (a .at) 0) (now (a .s)) (a .at) (a .line) (sym (at-call .next-at .ensures) ∙ at-next .next2 .given .1) in
     omega arith
 
 part-result-start-2 : tie.Need-part-result-start-2
@@ -71,7 +72,7 @@ part-result-start-2 c =
     let at-next = c .before in
     let at-call = at-next .before .before in
     let a = at-call .before .before .args in
-    let f = acted (now (a .s)) (a .at) (a .line) (sym (at-call .next-at .ensures) ∙ at-next .next2 .given .1) in
+    let f = acted (eqb (a .at) 0) (now (a .s)) (a .at) (a .line) (sym (at-call .next-at .ensures) ∙ at-next .next2 .given .1) in
     omega arith
 
 part-result-end-2 : tie.Need-part-result-end-2
@@ -79,7 +80,7 @@ part-result-end-2 c =
     let at-next = c .before in
     let at-call = at-next .before .before in
     let a = at-call .before .before .args in
-    let f = acted (now (a .s)) (a .at) (a .line) (sym (at-call .next-at .ensures) ∙ at-next .next2 .given .1) in
+    let f = acted (eqb (a .at) 0) (now (a .s)) (a .at) (a .line) (sym (at-call .next-at .ensures) ∙ at-next .next2 .given .1) in
     omega arith
 
 enum-told : tie.Need-enum-told
@@ -95,7 +96,7 @@ part-result-end-3 : tie.Need-part-result-end-3
 part-result-end-3 c =
     let at-call = c .before .before in
     let a = at-call .before .before .args in
-    let f = refused-inside (now (a .s)) (a .at) (a .line) (sym (at-call .next-at .ensures) ∙ c .enum-told .given .1) in
+    let f = refused-inside (eqb (a .at) 0) (now (a .s)) (a .at) (a .line) (sym (at-call .next-at .ensures) ∙ c .enum-told .given .1) in
     omega (arith, leb-false (length (now (a .s))) (a .at) f)
 
 enum-told-2 : tie.Need-enum-told-2
@@ -116,7 +117,7 @@ returns c =
     let at-call = at-next .before .before in
     let a = at-call .before .before .args in
     let e = sym (at-call .next-at .ensures) ∙ at-next .next .given .1 in
-    let f = begun (now (a .s)) (a .at) (a .line) e in
+    let f = begun (eqb (a .at) 0) (now (a .s)) (a .at) (a .line) e in
     record { memory = refl; place = rw (f .left) (search needs); is = rw e (f .part) }
 
 returns-2 : tie.Need-returns-2
@@ -125,7 +126,7 @@ returns-2 c =
     let at-call = at-next .before .before in
     let a = at-call .before .before .args in
     let e = sym (at-call .next-at .ensures) ∙ at-next .next2 .given .1 in
-    let f = acted (now (a .s)) (a .at) (a .line) e in
+    let f = acted (eqb (a .at) 0) (now (a .s)) (a .at) (a .line) e in
     record { memory = refl; place = rw (f .left) (search needs); is = rw e (f .part) }
 
 returns-3 : tie.Need-returns-3
@@ -134,7 +135,8 @@ returns-3 c =
     let at-call = at-told .before .before in
     let a = at-call .before .before .args in
     let e = sym (at-call .next-at .ensures) ∙ at-told .enum-told .given .1 in
-    record { memory = refl; place = rw (refused-inside (now (a .s)) (a .at) (a .line) e) (omega arith); is = rw e (none-taken (a .at) (now (a .s))) }
+    let f = refused-inside (eqb (a .at) 0) (now (a .s)) (a .at) (a .line) e in
+    record { memory = refl; place = rw f (omega arith); is = rw e (none-taken (a .at) (now (a .s))) }
 
 returns-4 : tie.Need-returns-4
 returns-4 c =
@@ -142,7 +144,8 @@ returns-4 c =
     let at-call = at-told .before .before in
     let a = at-call .before .before .args in
     let e = sym (at-call .next-at .ensures) ∙ at-told .enum-told2 .given .1 in
-    record { memory = refl; place = rw (end-over (now (a .s)) (a .at) (a .line) e) (search needs); is = rw e (none-taken (length (now (a .s))) (now (a .s))) }
+    let f = end-over (eqb (a .at) 0) (now (a .s)) (a .at) (a .line) e in
+    record { memory = refl; place = rw f (search needs); is = rw e (none-taken (length (now (a .s))) (now (a .s))) }
 
 pub part-at-spec : {M : Type 1} → statement M
 part-at-spec =

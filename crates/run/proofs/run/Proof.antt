@@ -1,5 +1,6 @@
 -- `run` goes by the table's length and by what the journal begins with.
 use mathlib.Core.Path.{sym, _∙_}
+use mathlib.Core.Bool.{true}
 use native.Mathlib.Omega.{arith}
 use denote.Ref.{now}
 use Rattle.meaning.proofs.JournalLaws.{refused-numbered}
@@ -29,8 +30,8 @@ from-start-requires c κs =
     let at-if = at-next .before in
     let t = now (at-if .before .before .before .args .s) in
     let e = sym (at-next .next-at .ensures) ∙ at-n .n .given .1 in
-    let p = begun t 0 1 e in
-    (at-if .if1 .left, begin-right t 0 1 e, omega arith, p .within)
+    let p = begun true t 0 1 e in
+    (at-if .if1 .left, begin-right true t 0 1 e, omega arith, p .within)
 
 enum-told : tie.Need-enum-told
 enum-told c = search needs
@@ -52,7 +53,7 @@ returns-2 c =
     let at-if = at-next .before in
     let s = at-if .before .before .before in
     let e = sym (at-next .next-at .ensures) ∙ at-n .n .given .1 in
-    run-begun (now (s .args .t)) (now (s .args .s)) (at-if .if1 .left) e (begin-right (now (s .args .s)) 0 1 e) (at-start .from-start .ensures)
+    run-begun (now (s .args .t)) (now (s .args .s)) (at-if .if1 .left) e (begin-right true (now (s .args .s)) 0 1 e) (at-start .from-start .ensures)
 
 returns-3 : tie.Need-returns-3
 returns-3 c =
@@ -69,7 +70,7 @@ returns-4 c =
     let at-if = at-next .before in
     let s = at-if .before .before .before in
     let e = sym (at-next .next-at .ensures) ∙ at-number .number .given .1 in
-    run-broken (now (s .args .t)) (now (s .args .s)) (at-if .if1 .left) (refused-is (now (s .args .s)) e) (refused-numbered (now (s .args .s)) 0 1 _ e)
+    run-broken (now (s .args .t)) (now (s .args .s)) (at-if .if1 .left) (refused-is (now (s .args .s)) e) (refused-numbered true (now (s .args .s)) 0 1 _ e)
 
 returns-5 : tie.Need-returns-5
 returns-5 c =
