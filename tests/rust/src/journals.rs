@@ -115,7 +115,7 @@ fn compare(library: &mut Library, journal: &[u8], words: u32, room: u32, reached
     reached.add(&match () {
         () if nothing => "replay nothing".into(),
         () if done => "replay done".into(),
-        () => format!("replay {}", should.trim_end().rsplit(' ').next().unwrap()),
+        () => format!("replay {}", should.trim_end().split(' ').nth(2).unwrap()),
     });
     if done && journal.len() == JOURNAL {
         reached.add("replay of 65536 bytes");
