@@ -7,7 +7,7 @@ use Rattle.meaning.specs.declared.Action.{Action}
 use Rattle.meaning.specs.declared.Fault.{Fault}
 use Rattle.meaning.specs.Steps.{reply, after, replyValues}
 use Rattle.meaning.specs.Lines.{lineReply, lineAfter, answerValues, linesReply, linesAfter, progressValues}
-use Rattle.meaning.specs.Frames.{framedValues, frameReply, frameAfter, startReply, startAfter}
+use Rattle.meaning.specs.Frames.{wordsFault, wordsAfter, framedValues, frameReply, frameAfter, startReply, startAfter}
 
 -- of a step: the number, then the counts; and the table at exit
 abbrev pub Stepped : List ℕ → Action → List ℕ → List ℕ → Type 0
@@ -32,3 +32,7 @@ Started out n told bytes = (told ≡ framedValues (startReply out n)) × (bytes 
 -- of a checked line: the number of its refusal and the place in it
 abbrev pub faultValues : Fault → List ℕ
 faultValues f = f .number ∷ f .place ∷ []
+
+-- of a line read into lent words: the same; and the words at exit
+abbrev pub LineRead : List ℕ → List ℕ → List ℕ → List ℕ → Type 0
+LineRead l words told words′ = (told ≡ faultValues (wordsFault l words)) × (words′ ≡ wordsAfter l words)

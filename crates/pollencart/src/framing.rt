@@ -1,11 +1,11 @@
-// Frames for C: check a line, its kind and fields, and write each kind of frame. Thin over the crates `reading` and `writing`.
+// Frames for C: check a line, read all of it at once, its kind and fields one by one, and write each kind of frame. Thin over the crates `reading` and `writing`.
 ghost use mathlib.Core.Path.{_≡_};
 ghost use mathlib.Core.List.{[], _∷_};
 ghost use Prim.Native.Nat.{_+_};
 ghost use lib.ListN.{getD};
 ghost use Rattle.meaning.specs.declared.Action.the-variants.{Write, Session, Purge};
 ghost use Rattle.meaning.specs.Frames.{readLine, lineFault, lineValues};
-ghost use Rattle.answers.specs.Told.{Framed, Started, faultValues};
+ghost use Rattle.answers.specs.Told.{LineRead, Framed, Started, faultValues};
 use answers::locate;
 use answers::report;
 
@@ -15,6 +15,15 @@ pub extern "C" fn pollencart_check_line(line: &[u8], place: &mut usize) -> u32
     ensures { λ r. ⌜ (r ∷ now (place .exit) ∷ []) ≡ faultValues (lineFault (now (line .entry))) ⌝ }
 {
     let fault = reading::check(line);
+    locate(fault, place)
+}
+
+// The same, with 17 after the line's refusals for fewer than six words, and the line's kind and all its fields in the first six; a refusal changes none.
+#[no_mangle]
+pub extern "C" fn pollencart_read_line(line: &[u8], values: &mut [u32], place: &mut usize) -> u32
+    ensures { λ r. ⌜ LineRead (now (line .entry)) (now (values .entry)) (r ∷ now (place .exit) ∷ []) (now (values .exit)) ⌝ }
+{
+    let fault = reading::read_words(line, values);
     locate(fault, place)
 }
 
