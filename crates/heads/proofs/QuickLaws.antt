@@ -23,7 +23,6 @@ use Rattle.meaning.specs.Frames.{
   digitsIn,
   digitsOf,
   lineKind,
-  outcomeHigh,
   startWrong,
 }
 use Rattle.meaning.proofs.RowLaws.{and-left, and-right}

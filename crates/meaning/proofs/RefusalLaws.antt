@@ -69,7 +69,8 @@ given-before [] ys h = absurd (true≢false h)
 given-before (x ∷ xs) ys h = go (x .applies) (given-before xs ys) h
   where
     go : (b : Bool) → (none xs ≡ false → Gives (xs ++ ys) (first xs) (firstPlace xs)) → not b && none xs ≡ false
-        → (cond b (x .number) (first (xs ++ ys)) ≡ cond b (x .number) (first xs)) × (cond b (x .place) (firstPlace (xs ++ ys)) ≡ cond b (x .place) (firstPlace xs))
+        → (cond b (x .number) (first (xs ++ ys)) ≡ cond b (x .number) (first xs))
+        × (cond b (x .place) (firstPlace (xs ++ ys)) ≡ cond b (x .place) (firstPlace xs))
     go true ih e = (refl, refl)
     go false ih e = ih e
 

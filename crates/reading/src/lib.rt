@@ -111,8 +111,9 @@ fn few(s: &[u8]) -> Fault
 pub fn read_words(s: &[u8], words: &mut [u32]) -> Fault
     ensures { λ r. ⌜ ReadWords (now (s .entry)) (now (words .entry)) r (now (words .exit)) ⌝ }
 {
+    let long = s.len();
     if words.len() < 6 {
-        return few(s);
+        return few(&s[0..long]);
     }
     if words::put_sure(s, &mut words[0..6]) {
         return Fault {
@@ -120,6 +121,5 @@ pub fn read_words(s: &[u8], words: &mut [u32]) -> Fault
             place: 0,
         };
     }
-    let long = s.len();
     why::refusal(&s[0..long])
 }

@@ -39,4 +39,13 @@ returns-2 c =
     c .refusal .ensures ∙ ap lineFault (whole-part s (length s - 0) (omega arith))
 
 pub check-spec : {M : Type 1} → statement M
-check-spec = tie.close (tie.spec sure-requires returns sub-refusal part-refusal-start part-refusal-end refusal-requires returns-2)
+check-spec =
+    tie.close
+    (tie.spec
+    sure-requires
+    returns
+    sub-refusal
+    part-refusal-start
+    part-refusal-end
+    refusal-requires
+    returns-2)

@@ -65,4 +65,19 @@ returns-4 c =
     refused-field s (start .args .index) (other-refused s (at-if1 .if1 .left) (c .match .rest .0 .1) (c .match .rest .1))
 
 pub field-spec : {M : Type 1} → statement M
-field-spec = tie.close (tie.spec short-field-requires returns sub-write-field part-write-field-start part-write-field-end write-field-requires sub-session-field part-session-field-start part-session-field-end session-field-requires returns-2 returns-3 returns-4)
+field-spec =
+    tie.close
+    (tie.spec
+    short-field-requires
+    returns
+    sub-write-field
+    part-write-field-start
+    part-write-field-end
+    write-field-requires
+    sub-session-field
+    part-session-field-start
+    part-session-field-end
+    session-field-requires
+    returns-2
+    returns-3
+    returns-4)

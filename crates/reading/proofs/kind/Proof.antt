@@ -85,4 +85,21 @@ returns-6 c =
     refused-kind s (other-refused s (at-if1 .if1 .left) (c .match .rest .0 .1) (c .match .rest .1))
 
 pub kind-spec : {M : Type 1} → statement M
-kind-spec = tie.close (tie.spec short-kind-requires returns sub-is-write part-is-write-start part-is-write-end is-write-requires sub-is-session part-is-session-start part-is-session-end is-session-requires returns-2 returns-3 returns-4 returns-5 returns-6)
+kind-spec =
+    tie.close
+    (tie.spec
+    short-kind-requires
+    returns
+    sub-is-write
+    part-is-write-start
+    part-is-write-end
+    is-write-requires
+    sub-is-session
+    part-is-session-start
+    part-is-session-end
+    is-session-requires
+    returns-2
+    returns-3
+    returns-4
+    returns-5
+    returns-6)

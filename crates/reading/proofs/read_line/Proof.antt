@@ -80,4 +80,14 @@ returns-3 c =
     ∙ line-act s clear (at-byte .byte .result) is (at-if2 .if2 .left) (start .args .line)
 
 pub read-line-spec : {M : Type 1} → statement M
-read-line-spec = tie.close (tie.spec sure-requires refusal-requires returns byte-requires byte-requires-2 returns-2 action-requires returns-3)
+read-line-spec =
+    tie.close
+    (tie.spec
+    sure-requires
+    refusal-requires
+    returns
+    byte-requires
+    byte-requires-2
+    returns-2
+    action-requires
+    returns-3)

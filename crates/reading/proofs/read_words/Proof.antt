@@ -1,23 +1,35 @@
 -- `read_words` meets its contract: too few words, an accepted line, or a refused one.
 use mathlib.Core.Path.{refl, sym, _∙_, ap}
-use Prim.Native.Nat.{_-_}
+use mathlib.Core.List.{List, []}
+use Prim.Native.Nat.{ℕ, _-_}
 use native.Mathlib.Omega.{arith}
 use lib.ListN.{length}
-use Rattle.meaning.specs.Frames.{lineFault}
+use Rattle.meaning.specs.Frames.{lineFault, wordsFault}
 use Rattle.heads.proofs.HeadLaws.{whole-part}
 use Rattle.reading.proofs.LineLaws.{few-words, full-words, kept-words}
 use borrow.Author.Needs.{needs}
 use Rattle.reading.proofs.read_words.Statement.{statement}
 use Rattle.reading.proofs.read_words.Tie as tie
 
+sub-few : tie.Need-sub-few
+sub-few c = search needs
+
+part-few-start : tie.Need-part-few-start
+part-few-start c = search needs
+
+part-few-end : tie.Need-part-few-end
+part-few-end c = search needs
+
 few-requires : tie.Need-few-requires
 few-requires c κs = search needs
 
 returns : tie.Need-returns
 returns c =
-    let at-if1 = c .before in
+    let at-if1 = c .before .before in
     let start = at-if1 .before .before .before in
-    few-words (start .args .s .now) (start .args .words .now) (c .few .result) (at-if1 .if1 .taken) (c .few .ensures)
+    let s = start .args .s .now in
+    let few = c .few .ensures ∙ ap (λ (l : List ℕ). wordsFault l []) (whole-part s (length s - 0) (omega arith)) in
+    few-words s (start .args .words .now) (c .few .result) (at-if1 .if1 .taken) few
 
 sub-put-sure : tie.Need-sub-put-sure
 sub-put-sure c = search needs
@@ -69,4 +81,23 @@ returns-3 c =
     (c .refusal .ensures ∙ ap lineFault (whole-part s (length s - 0) (omega arith)))
 
 pub read-words-spec : {M : Type 1} → statement M
-read-words-spec = tie.close (tie.spec few-requires returns sub-put-sure part-put-sure-start part-put-sure-end put-sure-requires same-length returns-2 sub-refusal part-refusal-start part-refusal-end refusal-requires same-length-2 returns-3)
+read-words-spec =
+    tie.close
+    (tie.spec
+    sub-few
+    part-few-start
+    part-few-end
+    few-requires
+    returns
+    sub-put-sure
+    part-put-sure-start
+    part-put-sure-end
+    put-sure-requires
+    same-length
+    returns-2
+    sub-refusal
+    part-refusal-start
+    part-refusal-end
+    refusal-requires
+    same-length-2
+    returns-3)

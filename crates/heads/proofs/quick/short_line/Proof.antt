@@ -142,4 +142,21 @@ returns-5 c =
     (sym (at-check .is-check .ensures) ∙ not-false (at-check .is-check .result) (c .if4 .left))
 
 pub short-line-spec : {M : Type 1} → statement M
-short-line-spec = tie.close (tie.spec returns wide-value-requires wide-value-requires-2 returns-2 mul-n add-n may-hold-requires returns-3 sub-kind add-is-check is-check-requires returns-4 mul-result add-result returns-5)
+short-line-spec =
+    tie.close
+    (tie.spec
+    returns
+    wide-value-requires
+    wide-value-requires-2
+    returns-2
+    mul-n
+    add-n
+    may-hold-requires
+    returns-3
+    sub-kind
+    add-is-check
+    is-check-requires
+    returns-4
+    mul-result
+    add-result
+    returns-5)

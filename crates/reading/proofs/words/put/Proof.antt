@@ -45,4 +45,14 @@ returns c =
     six-set (x .words .now) (x .kind) (x .a) (x .b) (x .c) (x .d) (x .e) (c .pre)
 
 pub put-spec : {M : Type 1} → statement M
-put-spec = tie.close (tie.spec slice-write-words slice-write-words-2 slice-write-words-3 slice-write-words-4 slice-write-words-5 slice-write-words-6 same-length returns)
+put-spec =
+    tie.close
+    (tie.spec
+    slice-write-words
+    slice-write-words-2
+    slice-write-words-3
+    slice-write-words-4
+    slice-write-words-5
+    slice-write-words-6
+    same-length
+    returns)

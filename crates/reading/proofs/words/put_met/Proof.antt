@@ -56,7 +56,21 @@ returns c =
     let at-b = at-ca .before in
     let at-a = at-b .before in
     at-put .put .ensures
-    ∙ (λ i. 2 ∷ at-a .byte-of .ensures i ∷ at-b .byte-of2 .ensures i ∷ at-ca .word-of .ensures i ∷ at-cb .word-of2 .ensures i ∷ at-outcome .byte-of3 .ensures i ∷ [])
+    ∙ (λ i.
+    2 ∷ at-a .byte-of .ensures i ∷ at-b .byte-of2 .ensures i ∷ at-ca .word-of .ensures i ∷ at-cb .word-of2 .ensures i ∷ at-outcome .byte-of3 .ensures i ∷ [])
 
 pub put-met-spec : {M : Type 1} → statement M
-put-met-spec = tie.close (tie.spec byte-of-requires cast-put byte-of-requires-2 cast-put-2 word-of-requires word-of-requires-2 byte-of-requires-3 cast-put-3 put-requires same-length returns)
+put-met-spec =
+    tie.close
+    (tie.spec
+    byte-of-requires
+    cast-put
+    byte-of-requires-2
+    cast-put-2
+    word-of-requires
+    word-of-requires-2
+    byte-of-requires-3
+    cast-put-3
+    put-requires
+    same-length
+    returns)

@@ -153,4 +153,23 @@ returns-5 c =
     (at-put .put-met .ensures ∙ six-session s v long (at-if1 .if1 .left) (at-if2 .if2 .left) due told few)
 
 pub put-session-spec : {M : Type 1} → statement M
-put-session-spec = tie.close (tie.spec shared-slice-read-if1 returns shared-slice-read-if2 returns-2 sub-values part-values-start part-values-end slice-aggregate-values values-requires returns-3 slice-aggregate-byte-of byte-of-requires returns-4 slice-aggregate-put-met put-met-requires same-length returns-5)
+put-session-spec =
+    tie.close
+    (tie.spec
+    shared-slice-read-if1
+    returns
+    shared-slice-read-if2
+    returns-2
+    sub-values
+    part-values-start
+    part-values-end
+    slice-aggregate-values
+    values-requires
+    returns-3
+    slice-aggregate-byte-of
+    byte-of-requires
+    returns-4
+    slice-aggregate-put-met
+    put-met-requires
+    same-length
+    returns-5)

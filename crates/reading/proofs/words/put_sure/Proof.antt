@@ -53,7 +53,8 @@ returns-2 c =
     let start = at-match .before .before .before .before in
     let s = start .args .s .now in
     let whole = whole-part s 24 (omega (arith, at-match .match .keys1)) in
-    subst (λ (l : List ℕ). Puts l (start .args .words .now) (at-put .put-write .result) (at-put .put-write .last .1 .0)) whole (at-put .put-write .ensures)
+    let put = at-put .put-write in
+    subst (λ (l : List ℕ). Puts l (start .args .words .now) (put .result) (put .last .1 .0)) whole (put .ensures)
 
 same-length-3 : tie.Need-same-length-3
 same-length-3 c = search needs
@@ -65,7 +66,8 @@ returns-3 c =
     let start = at-match .before .before .before .before in
     let s = start .args .s .now in
     let whole = whole-part s 26 (omega (arith, at-match .match .keys2)) in
-    subst (λ (l : List ℕ). Puts l (start .args .words .now) (at-put .put-session .result) (at-put .put-session .last .1 .0)) whole (at-put .put-session .ensures)
+    let put = at-put .put-session in
+    subst (λ (l : List ℕ). Puts l (start .args .words .now) (put .result) (put .last .1 .0)) whole (put .ensures)
 
 returns-4 : tie.Need-returns-4
 returns-4 c =
@@ -75,4 +77,22 @@ returns-4 c =
     puts-not s (start .args .words .now) (other-refused s (at-if1 .if1 .left) (c .match .rest .0 .1) (c .match .rest .1))
 
 pub put-sure-spec : {M : Type 1} → statement M
-put-sure-spec = tie.close (tie.spec put-short-requires same-length returns sub-put-write part-put-write-start part-put-write-end put-write-requires sub-put-session part-put-session-start part-put-session-end put-session-requires same-length-2 returns-2 same-length-3 returns-3 returns-4)
+put-sure-spec =
+    tie.close
+    (tie.spec
+    put-short-requires
+    same-length
+    returns
+    sub-put-write
+    part-put-write-start
+    part-put-write-end
+    put-write-requires
+    sub-put-session
+    part-put-session-start
+    part-put-session-end
+    put-session-requires
+    same-length-2
+    returns-2
+    same-length-3
+    returns-3
+    returns-4)

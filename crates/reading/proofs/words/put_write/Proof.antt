@@ -83,4 +83,17 @@ returns-4 c =
     (at-put .put-written .ensures ∙ six-write s (values .last .1 .0) long (at-if1 .if1 .left) (at-if2 .if2 .left) zero (values .ensures .1))
 
 pub put-write-spec : {M : Type 1} → statement M
-put-write-spec = tie.close (tie.spec shared-slice-read-if1 returns shared-slice-read-if2 returns-2 slice-aggregate-values values-requires returns-3 slice-aggregate-put-written put-written-requires same-length returns-4)
+put-write-spec =
+    tie.close
+    (tie.spec
+    shared-slice-read-if1
+    returns
+    shared-slice-read-if2
+    returns-2
+    slice-aggregate-values
+    values-requires
+    returns-3
+    slice-aggregate-put-written
+    put-written-requires
+    same-length
+    returns-4)

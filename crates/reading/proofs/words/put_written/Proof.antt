@@ -50,4 +50,15 @@ returns c =
     ∙ (λ i. 1 ∷ at-node .byte-of .ensures i ∷ at-timestamp .word-of .ensures i ∷ at-block .word-of2 .ensures i ∷ at-verdict .byte-of2 .ensures i ∷ 0 ∷ [])
 
 pub put-written-spec : {M : Type 1} → statement M
-put-written-spec = tie.close (tie.spec byte-of-requires cast-put word-of-requires word-of-requires-2 byte-of-requires-2 cast-put-2 put-requires same-length returns)
+put-written-spec =
+    tie.close
+    (tie.spec
+    byte-of-requires
+    cast-put
+    word-of-requires
+    word-of-requires-2
+    byte-of-requires-2
+    cast-put-2
+    put-requires
+    same-length
+    returns)
