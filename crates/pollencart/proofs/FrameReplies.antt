@@ -25,7 +25,7 @@ use Rattle.pollencart.proofs.framing.pollencart_frame_purge.Reads as pu
 pub one-check : OneReply 2 check-kinds.ps check-kinds.r check.Post (λ κs x s. x ∷ now (s .1 .0) ∷ [])
 one-check κs a x y s s' p q = p ∙ sym q
 
-pub one-read : OneReply 2 read-kinds.ps read-kinds.r read.Post (λ κs x s. (x ∷ now (s .1 .1 .0) ∷ []) ++ now (s .1 .0))
+pub one-read : OneReply 3 read-kinds.ps read-kinds.r read.Post (λ κs x s. (x ∷ now (s .1 .1 .0) ∷ []) ++ now (s .1 .0))
 one-read κs a x y s s' p q = both (p .0) (q .0) (p .1) (q .1)
 
 pub one-kind : OneResult 1 kind-kinds.ps kind-kinds.r kind.Post

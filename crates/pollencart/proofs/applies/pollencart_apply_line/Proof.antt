@@ -29,8 +29,8 @@ returns c =
       at-apply .apply-line .ensures .1,
     )
 
-pub pollencart-line-spec : {M : Type 1} → statement M
-pollencart-line-spec =
+pub pollencart-apply-line-spec : {M : Type 1} → statement M
+pollencart-apply-line-spec =
     tie.close
     (tie.spec
     apply-line-requires

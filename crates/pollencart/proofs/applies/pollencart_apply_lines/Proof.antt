@@ -16,5 +16,5 @@ returns c =
     let told = c .before .before .apply-lines .ensures in
     (ap progressValues (told .0), told .1)
 
-pub pollencart-lines-spec : {M : Type 1} → statement M
-pollencart-lines-spec = tie.close (tie.spec apply-lines-requires same-length returns)
+pub pollencart-apply-lines-spec : {M : Type 1} → statement M
+pollencart-apply-lines-spec = tie.close (tie.spec apply-lines-requires same-length returns)

@@ -11,11 +11,8 @@ read-words-requires c κs = search needs
 locate-requires : tie.Need-locate-requires
 locate-requires c κs = search needs
 
-same-values : tie.Need-same-values
-same-values c = search needs
-
-same-place : tie.Need-same-place
-same-place c = search needs
+same-length : tie.Need-same-length
+same-length c = search needs
 
 returns : tie.Need-returns
 returns c =
@@ -23,4 +20,4 @@ returns c =
     (c .locate .ensures ∙ ap faultValues (at-read .read-words .ensures .0), at-read .read-words .ensures .1)
 
 pub pollencart-read-line-spec : {M : Type 1} → statement M
-pollencart-read-line-spec = tie.close (tie.spec read-words-requires locate-requires same-values same-place returns)
+pollencart-read-line-spec = tie.close (tie.spec read-words-requires locate-requires same-length returns)
