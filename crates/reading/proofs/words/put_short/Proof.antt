@@ -1,5 +1,6 @@
 -- `put_short` meets its contract: by what the line holds.
 use mathlib.Core.Path.{_∙_}
+use native.Mathlib.Omega.{arith}
 use Rattle.meaning.proofs.FrameLaws.{clear}
 use Rattle.heads.proofs.QuickLaws.{short-tells}
 use Rattle.reading.proofs.LineLaws.{held-refused, six-short, puts-not, puts-is}
@@ -16,7 +17,7 @@ returns c =
     let start = at-held .before .before .before in
     let s = start .args .s .now in
     let held = at-held .short-held in
-    puts-not s (start .args .words .now) (held-refused s (held .result) (held .ensures) (start .pre .0) (c .if1 .taken))
+    puts-not s (start .args .words .now) (held-refused s (held .result) (held .ensures) (start .pre .0) (omega (arith, c .if1 .taken)))
 
 put-requires : tie.Need-put-requires
 put-requires c κs = search needs

@@ -2,33 +2,32 @@
 use mathlib.Core.Path.{_∙_}
 use mathlib.Core.List.{[], _∷_}
 use native.Mathlib.Omega.{arith}
-use Rattle.reading.proofs.LineLaws.{joins-part}
 use borrow.Author.Needs.{needs}
 use Rattle.reading.proofs.words.put_written.Statement.{statement}
 use Rattle.reading.proofs.words.put_written.Tie as tie
 
 byte-of-requires : tie.Need-byte-of-requires
 byte-of-requires c κs =
-    let start = c .before .before .before in
-    joins-part (start .args .v .now) 2 1 (start .pre .0) (omega arith)
+    let joins = c .before .before .before .pre .0 in
+    record { small = joins .small; room = omega (arith, joins .room) }
 
 cast-put : tie.Need-cast-put
 cast-put c = search needs
 
 word-of-requires : tie.Need-word-of-requires
 word-of-requires c κs =
-    let start = c .before .before .before .before in
-    joins-part (start .args .v .now) 4 4 (start .pre .0) (omega arith)
+    let joins = c .before .before .before .before .pre .0 in
+    record { small = joins .small; room = omega (arith, joins .room) }
 
 word-of-requires-2 : tie.Need-word-of-requires-2
 word-of-requires-2 c κs =
-    let start = c .before .before .before .before .before in
-    joins-part (start .args .v .now) 12 4 (start .pre .0) (omega arith)
+    let joins = c .before .before .before .before .before .pre .0 in
+    record { small = joins .small; room = omega (arith, joins .room) }
 
 byte-of-requires-2 : tie.Need-byte-of-requires-2
 byte-of-requires-2 c κs =
-    let start = c .before .before .before .before .before .before in
-    joins-part (start .args .v .now) 20 1 (start .pre .0) (omega arith)
+    let joins = c .before .before .before .before .before .before .pre .0 in
+    record { small = joins .small; room = omega (arith, joins .room) }
 
 cast-put-2 : tie.Need-cast-put-2
 cast-put-2 c = search needs
