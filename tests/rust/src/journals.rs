@@ -99,6 +99,7 @@ pub fn damage(rng: &mut Random, journal: &mut Vec<Vec<u8>>) {
         9 => journal.truncate(at),
         10 => journal[at].extend_from_slice(b"0"),
         11 => journal[at] = b"0002FF\n".to_vec(),
+        12 => journal[at] = b"020001000000060000000404EF\n".to_vec(),
         _ => {}
     }
 }
