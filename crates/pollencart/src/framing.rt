@@ -1,4 +1,4 @@
-// Frames for C: check a line, read all of it at once, its kind and fields one by one, and write each kind of frame. Thin over the crates `reading` and `writing`.
+// Frames for C: check a line, read all of it at once, its kind and fields one by one, write each kind. Thin over the crates `reading` and `writing`.
 ghost use mathlib.Core.Path.{_≡_};
 ghost use mathlib.Core.List.{[], _∷_};
 ghost use Prim.Native.Nat.{_+_};
