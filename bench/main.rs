@@ -14,7 +14,9 @@ use model::{Action, Table};
 use std::hint::black_box;
 use std::time::Instant;
 
-type Check = unsafe extern "C" fn(*const u8, usize) -> u32;
+type CheckLine = unsafe extern "C" fn(*const u8, usize, *mut usize) -> u32;
+type ReadLine = unsafe extern "C" fn(*const u8, usize, *mut u32, usize, *mut usize) -> u32;
+type Kind = unsafe extern "C" fn(*const u8, usize) -> u32;
 type Field = unsafe extern "C" fn(*const u8, usize, u32) -> u32;
 type FrameWrite = unsafe extern "C" fn(*mut u8, usize, u8, u32, u32, u8, *mut u32) -> u32;
 type FrameSession = unsafe extern "C" fn(*mut u8, usize, u8, u8, u32, u32, u8, *mut u32) -> u32;
@@ -23,13 +25,16 @@ type Write = unsafe extern "C" fn(*mut u32, usize, u8, u32, u32, u8) -> u32;
 type Session = unsafe extern "C" fn(*mut u32, usize, u8, u8, u32, u32, u8, *mut u32, *mut u32) -> u32;
 type Purge = unsafe extern "C" fn(*mut u32, usize, u8, *mut u32) -> u32;
 type Count = unsafe extern "C" fn(*const u32, usize, *mut u32, *mut u32) -> u32;
+type ApplyLine = unsafe extern "C" fn(*mut u32, usize, *const u8, usize, *mut u32, *mut u32, *mut usize) -> u32;
+type ApplyLines = unsafe extern "C" fn(*mut u32, usize, *const u8, usize, *mut usize, *mut usize, *mut usize, *mut usize) -> u32;
 type Replay = unsafe extern "C" fn(*const u8, usize, *mut u32, usize, *mut u8, usize) -> u32;
 
 /// The calls of one C library.
 #[derive(Clone, Copy)]
 struct Api {
-    check: Check,
-    kind: Check,
+    check_line: CheckLine,
+    read_line: ReadLine,
+    kind: Kind,
     field: Field,
     frame_start: FrameShort,
     frame_write: FrameWrite,
@@ -39,13 +44,16 @@ struct Api {
     session: Session,
     purge: Purge,
     count: Count,
+    apply_line: ApplyLine,
+    apply_lines: ApplyLines,
     replay: Replay,
 }
 
 macro_rules! api {
-    ($check:ident $kind:ident $field:ident $frame_start:ident $frame_write:ident $frame_session:ident $frame_purge:ident $write:ident $session:ident $purge:ident $count:ident $replay:ident) => {{
+    ($check_line:ident $read_line:ident $kind:ident $field:ident $frame_start:ident $frame_write:ident $frame_session:ident $frame_purge:ident $write:ident $session:ident $purge:ident $count:ident $apply_line:ident $apply_lines:ident $replay:ident) => {{
         extern "C" {
-            fn $check(l: *const u8, n: usize) -> u32;
+            fn $check_line(l: *const u8, n: usize, p: *mut usize) -> u32;
+            fn $read_line(l: *const u8, n: usize, v: *mut u32, m: usize, p: *mut usize) -> u32;
             fn $kind(l: *const u8, n: usize) -> u32;
             fn $field(l: *const u8, n: usize, i: u32) -> u32;
             fn $frame_start(o: *mut u8, n: usize, p: u8, r: *mut u32) -> u32;
@@ -56,10 +64,13 @@ macro_rules! api {
             fn $session(w: *mut u32, n: usize, a: u8, b: u8, x: u32, y: u32, c: u8, r: *mut u32, s: *mut u32) -> u32;
             fn $purge(w: *mut u32, n: usize, p: u8, r: *mut u32) -> u32;
             fn $count(w: *const u32, n: usize, s: *mut u32, t: *mut u32) -> u32;
+            fn $apply_line(w: *mut u32, n: usize, l: *const u8, m: usize, x: *mut u32, y: *mut u32, p: *mut usize) -> u32;
+            fn $apply_lines(w: *mut u32, n: usize, l: *const u8, m: usize, x: *mut usize, y: *mut usize, z: *mut usize, p: *mut usize) -> u32;
             fn $replay(j: *const u8, n: usize, w: *mut u32, m: usize, o: *mut u8, r: usize) -> u32;
         }
         Api {
-            check: $check,
+            check_line: $check_line,
+            read_line: $read_line,
             kind: $kind,
             field: $field,
             frame_start: $frame_start,
@@ -70,6 +81,8 @@ macro_rules! api {
             session: $session,
             purge: $purge,
             count: $count,
+            apply_line: $apply_line,
+            apply_lines: $apply_lines,
             replay: $replay,
         }
     }};
@@ -77,9 +90,9 @@ macro_rules! api {
 
 fn apis() -> [Api; 3] {
     [
-        api!(pollencart_check pollencart_kind pollencart_field pollencart_frame_start pollencart_frame_write pollencart_frame_session pollencart_frame_purge pollencart_write pollencart_session pollencart_purge pollencart_count pollencart_replay),
-        api!(plain_check plain_kind plain_field plain_frame_start plain_frame_write plain_frame_session plain_frame_purge plain_write plain_session plain_purge plain_count plain_replay),
-        api!(clang_check clang_kind clang_field clang_frame_start clang_frame_write clang_frame_session clang_frame_purge clang_write clang_session clang_purge clang_count clang_replay),
+        api!(pollencart_check_line pollencart_read_line pollencart_kind pollencart_field pollencart_frame_start pollencart_frame_write pollencart_frame_session pollencart_frame_purge pollencart_write pollencart_session pollencart_purge pollencart_count pollencart_apply_line pollencart_apply_lines pollencart_replay),
+        api!(plain_check_line plain_read_line plain_kind plain_field plain_frame_start plain_frame_write plain_frame_session plain_frame_purge plain_write plain_session plain_purge plain_count plain_apply_line plain_apply_lines plain_replay),
+        api!(clang_check_line clang_read_line clang_kind clang_field clang_frame_start clang_frame_write clang_frame_session clang_frame_purge clang_write clang_session clang_purge clang_count clang_apply_line clang_apply_lines clang_replay),
     ]
 }
 
@@ -132,7 +145,11 @@ fn lines(rows: &mut Vec<Row>) {
         let given = line.clone();
         let check = |api: Api| {
             let line = line.clone();
-            move |_: usize| seen(unsafe { (api.check)(black_box(line.as_ptr()), line.len()) })
+            move |_: usize| {
+                let mut place = 0;
+                seen(unsafe { (api.check_line)(black_box(line.as_ptr()), line.len(), &mut place) });
+                black_box(place);
+            }
         };
         let rust = given.clone();
         rows.push(row(&format!("check a line: {name}"), 4000, check, move |_| seen(model::read(black_box(&rust)))));
@@ -140,9 +157,9 @@ fn lines(rows: &mut Vec<Row>) {
         let whole = |api: Api| {
             let line = line.clone();
             move |_: usize| {
-                let (at, size) = (black_box(line.as_ptr()), line.len());
+                let (at, size, mut place) = (black_box(line.as_ptr()), line.len(), 0);
                 unsafe {
-                    black_box((api.check)(at, size));
+                    black_box((api.check_line)(at, size, &mut place));
                     black_box((api.kind)(at, size));
                     for i in 0..many {
                         black_box((api.field)(at, size, i));
@@ -152,6 +169,16 @@ fn lines(rows: &mut Vec<Row>) {
         };
         let rust = given.clone();
         rows.push(row(&format!("check, kind and all fields: {name}"), 1000, whole, move |_| seen(model::read(black_box(&rust)).map(model::fields))));
+        let once = |api: Api| {
+            let line = line.clone();
+            move |_: usize| {
+                let (mut values, mut place) = ([0; 6], 0);
+                seen(unsafe { (api.read_line)(black_box(line.as_ptr()), line.len(), values.as_mut_ptr(), 6, &mut place) });
+                black_box((values, place));
+            }
+        };
+        let rust = given.clone();
+        rows.push(row(&format!("kind and all fields in one call: {name}"), 4000, once, move |_| seen(model::read(black_box(&rust)).map(model::fields))));
     }
 }
 
@@ -267,6 +294,90 @@ fn steps(rows: &mut Vec<Row>) {
     step(rows, "session, 32 to each (16 nodes, 32 held)", &cluster(16, 32), session(99, 99));
 }
 
+/// A step's line applied to a caller's table, on copies as above.
+fn line_applied(rows: &mut Vec<Row>, name: &str, table: &Table, action: Action) {
+    const COPIES: usize = 24;
+    let (mut words, mut line) = (Vec::new(), model::frame(action).unwrap());
+    line.pop();
+    table.to_words(&mut words);
+    let mut samples: Vec<Box<dyn FnMut() -> f64>> = Vec::new();
+    for api in apis() {
+        let (words, line, mut copies) = (words.clone(), line.clone(), vec![words.clone(); COPIES]);
+        samples.push(Box::new(move || {
+            copies.iter_mut().for_each(|copy| copy.copy_from_slice(&words));
+            let began = Instant::now();
+            for copy in &mut copies {
+                let (mut x, mut y, mut place) = (0, 0, 0);
+                assert_eq!(unsafe { (api.apply_line)(copy.as_mut_ptr(), WORDS, black_box(line.as_ptr()), line.len(), &mut x, &mut y, &mut place) }, 0);
+                black_box((x, y, place));
+            }
+            began.elapsed().as_nanos() as f64 / COPIES as f64
+        }));
+    }
+    let mut copies = vec![words.clone(); COPIES];
+    samples.push(Box::new(move || {
+        copies.iter_mut().for_each(|copy| copy.copy_from_slice(&words));
+        let began = Instant::now();
+        for copy in &mut copies {
+            let mut table = Table::from_words(copy).unwrap();
+            assert_eq!(model::apply_line(Some(&mut table), black_box(&line))[0], 0);
+            table.to_words(copy);
+        }
+        began.elapsed().as_nanos() as f64 / COPIES as f64
+    }));
+    rows.push(Row { name: name.into(), samples });
+}
+
+/// Many lines applied to a fresh table in one call; the time is that of one line.
+fn lines_applied(rows: &mut Vec<Row>, name: &str, actions: &[Action]) {
+    let text: Vec<u8> = actions.iter().flat_map(|action| model::frame(*action).unwrap()).collect();
+    let (mut words, mut after, many) = (Vec::new(), Vec::new(), actions.len());
+    let mut table = model::fresh(WORDS, 16).unwrap();
+    table.to_words(&mut words);
+    let said = model::apply_lines(Some(&mut table), &text);
+    table.to_words(&mut after);
+    assert_eq!([said[0], said[1], said[3]], [0, many as u32, text.len() as u32]);
+    let mut samples: Vec<Box<dyn FnMut() -> f64>> = Vec::new();
+    for api in apis() {
+        let (words, after, text, mut copy) = (words.clone(), after.clone(), text.clone(), words.clone());
+        samples.push(Box::new(move || {
+            copy.copy_from_slice(&words);
+            let (mut applied, mut refused, mut stopped, mut place) = (0, 0, 0, 0);
+            let began = Instant::now();
+            let number = unsafe { (api.apply_lines)(copy.as_mut_ptr(), WORDS, black_box(text.as_ptr()), text.len(), &mut applied, &mut refused, &mut stopped, &mut place) };
+            let took = began.elapsed().as_nanos() as f64 / many as f64;
+            assert_eq!((number, applied, refused as u32, stopped, place), (0, many, said[2], text.len(), 0));
+            assert!(copy == after);
+            took
+        }));
+    }
+    samples.push(Box::new(move || {
+        let mut table = Table::from_words(&words).unwrap();
+        let began = Instant::now();
+        assert_eq!(model::apply_lines(Some(&mut table), black_box(&text)), said);
+        began.elapsed().as_nanos() as f64 / many as f64
+    }));
+    rows.push(Row { name: name.into(), samples });
+}
+
+fn applies(rows: &mut Vec<Row>) {
+    for (n, held, which) in [(2, 4, "2 nodes, 4 held"), (16, 32, "16 nodes, 32 held")] {
+        let mut table = cluster(n, held);
+        for p in 0..n as usize {
+            table.summaries[p][..n as usize].fill(held);
+        }
+        line_applied(rows, &format!("a line applied: write ({which})"), &table, Action::Write { node: 1, timestamp: 99, block: 1, verdict: 0x20 });
+        line_applied(rows, &format!("a line applied: session, none carried ({which})"), &table, Action::Session { a: 0, b: 1, ca: 99, cb: 99, outcome: 3 });
+        line_applied(rows, &format!("a line applied: purge of none ({which})"), &table, Action::Purge { node: 0 });
+    }
+    let writes: Vec<Action> = (0..1000).map(|i| Action::Write { node: (i % 16) as u8, timestamp: i + 1, block: i, verdict: 0x20 }).collect();
+    lines_applied(rows, "a line of many applied: write", &writes);
+    let none: Vec<Action> = (0..2400).map(|i| Action::Session { a: (i % 16) as u8, b: ((i + 1) % 16) as u8, ca: i, cb: i, outcome: 3 }).collect();
+    lines_applied(rows, "a line of many applied: session, none carried", &none);
+    let purges: Vec<Action> = (0..2400).map(|i| Action::Purge { node: (i % 16) as u8 }).collect();
+    lines_applied(rows, "a line of many applied: purge of none", &purges);
+}
+
 /// A journal of a start and these steps, with its replay's text checked against the model once.
 fn journal(rows: &mut Vec<Row>, name: &str, n: u8, actions: &[Action], per: usize) {
     let mut text = model::start_frame(n);
@@ -354,6 +465,7 @@ fn main() {
     lines(&mut rows);
     frames(&mut rows);
     steps(&mut rows);
+    applies(&mut rows);
     journals(&mut rows);
     counts(&mut rows);
     // a row is known by its name, from one request to the next: a name is never given twice, nor to another case

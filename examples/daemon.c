@@ -1,10 +1,11 @@
-/* A scrubber daemon in small: it makes a frame for each finding, reads the frame back as a partner
- * would, keeps the cluster's table, runs sessions, purges, and prints the counts and the gap. */
+/* A scrubber daemon in small: it makes a frame for each finding, applies the frames as a partner would,
+ * one by one and many at once, keeps the cluster's table, runs sessions, purges, and prints the counts and the gap. */
 #include "pollencart.h"
 
 #include <inttypes.h>
 #include <stdio.h>
 #include <stdlib.h>
+#include <string.h>
 
 enum { NODES = 3 };
 
@@ -18,19 +19,42 @@ static void refused(const char *what, uint32_t number)
     }
 }
 
-/* A finding of this node: the frame goes out, and what comes in is read and applied. */
+/* The frame of a finding, as it goes out; the answer is its length. */
+static uint32_t frame_of(uint8_t *out, uint8_t node, uint32_t timestamp, uint32_t block, uint8_t verdict)
+{
+    uint32_t length;
+    refused("frame", pollencart_frame_write(out, POLLENCART_FRAME, node, timestamp, block, verdict, &length));
+    printf("%.*s", (int)length, (const char *)out);
+    return length;
+}
+
+/* A finding of this node: the frame goes out, and what comes in is read and applied in one call. */
 static void finding(uint8_t node, uint32_t timestamp, uint32_t block, uint8_t verdict)
 {
     uint8_t frame[POLLENCART_FRAME];
-    uint32_t length;
-    refused("frame", pollencart_frame_write(frame, sizeof frame, node, timestamp, block, verdict, &length));
-    printf("%.*s", (int)length, (const char *)frame);
+    uint32_t length = frame_of(frame, node, timestamp, block, verdict), first, second;
+    size_t place; /* of a fault in the line */
+    /* the line without its LF; a write has nothing to count */
+    refused("line", pollencart_apply_line(table, POLLENCART_TABLE, frame, length - 1, &first, &second, &place));
+}
 
-    size_t line = length - 1; /* the readers take the line without its LF */
-    refused("line", pollencart_check(frame, line));
-    if (pollencart_kind(frame, line) == POLLENCART_KIND_WRITE)
-        refused("write", pollencart_write(table, POLLENCART_TABLE, (uint8_t)pollencart_field(frame, line, 0), pollencart_field(frame, line, 1),
-                                          pollencart_field(frame, line, 2), (uint8_t)pollencart_field(frame, line, 3)));
+/* Lines that come in together, applied in one call; a refused line is told and passed over, so a second call goes on after it. */
+static void arrive(const uint8_t *lines, size_t length)
+{
+    size_t at = 0, line = 1, late = 0, applied, bad, stopped, place;
+    for (;;) {
+        uint32_t number = pollencart_apply_lines(table, POLLENCART_TABLE, lines + at, length - at, &applied, &bad, &stopped, &place);
+        line += applied, late += bad, at += stopped;
+        if (number == 0)
+            break;
+        fprintf(stderr, "line %zu refused with %" PRIu32 " at place %zu: %s\n", line++, number, place, pollencart_refusal_text(number));
+        const uint8_t *lf = memchr(lines + at, '\n', length - at);
+        if (number == POLLENCART_UNSOUND || lf == NULL)
+            exit(1);
+        at = (size_t)(lf - lines) + 1;
+    }
+    if (late)
+        fprintf(stderr, "%zu steps refused\n", late);
 }
 
 /* Two nodes meet at a clock reading; the outcome says which sides finished. */
@@ -62,9 +86,13 @@ int main(void)
 
     finding(0, 5, 4096, POLLENCART_VERDICT_GOOD);
     finding(0, 7, 4097, POLLENCART_VERDICT_CACHE);
-    finding(1, 6, 9001, POLLENCART_VERDICT_BAD);
-    finding(1, 9, 9001, POLLENCART_VERDICT_REPAIRED);
-    finding(2, 8, 70000, POLLENCART_VERDICT_CACHE + 2); /* any byte of the class */
+
+    /* what the two others found while they were away comes in at once */
+    uint8_t backlog[3 * POLLENCART_FRAME];
+    size_t length = frame_of(backlog, 1, 6, 9001, POLLENCART_VERDICT_BAD);
+    length += frame_of(backlog + length, 1, 9, 9001, POLLENCART_VERDICT_REPAIRED);
+    length += frame_of(backlog + length, 2, 8, 70000, POLLENCART_VERDICT_CACHE + 2); /* any byte of the class */
+    arrive(backlog, length);
 
     meet(0, 1, 10, POLLENCART_FINISH_BOTH);
     meet(1, 2, 11, POLLENCART_FINISH_A); /* cut: only node 1 took the records */

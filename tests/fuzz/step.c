@@ -1,9 +1,10 @@
-/* Write, session and purge, the count and the looks, on an arbitrary table: one of any length whose
+/* Write, session and purge, by their fields and as lines, the count and the looks, on an arbitrary table: one of any length whose
  * words come from the data, then steps; the same replies, counts and words as the plain version. */
 #include "fuzz.h"
 
-static struct part table_part;
+static struct part table_part, text_part;
 static uint32_t plain[8192];
+static uint8_t made[512];
 
 /* The data, read as numbers from its front; zero when it is used up. */
 static const uint8_t *data_at;
@@ -45,10 +46,57 @@ static size_t fill(void)
     return length;
 }
 
+/* A line of the data with its LF: a step's, rarely a start's or a damaged one. */
+static size_t put_line(uint8_t *out)
+{
+    static const uint8_t fields[4] = { 1, 10, 11, 1 };
+    uint32_t how = number(1);
+    uint8_t line[13] = { (uint8_t)(how % 32 == 0 ? 0 : 1 + how % 3) }, sum = 0;
+    size_t many = 1u + fields[line[0]], at = 0;
+    for (size_t i = 1; i < many; i++)
+        line[i] = (uint8_t)(i < 3 || i + 1 == many ? number(1) : i % 4 ? 0 : number(1));
+    if (how & 128)
+        line[1] &= 3, line[2] = line[0] == 2 ? line[2] & 3 : line[2];
+    if (line[0] == 2 && how & 64)
+        line[11] &= 3;
+    for (size_t i = 0; i < many; i++)
+        sum = (uint8_t)(sum + line[i]);
+    line[many++] = (uint8_t)(0u - sum);
+    for (size_t i = 0; i < many; i++)
+        out[at++] = (uint8_t)"0123456789ABCDEF"[line[i] >> 4], out[at++] = (uint8_t)"0123456789ABCDEF"[line[i] & 15];
+    out[at++] = '\n';
+    if (how % 32 == 5)
+        out[number(1) % at] = (uint8_t)number(1);
+    return at;
+}
+
+/* One line or many on both tables. */
+static void text(uint32_t *table, size_t length, uint32_t op)
+{
+    size_t size = 0, s[8] = { 7, 7, 7, 7, 7, 7, 7, 7 };
+    uint32_t w[4] = { 7, 7, 7, 7 };
+    for (uint32_t lines = op & 32 ? 1 : number(1) % 16; lines; lines--)
+        size += put_line(made + size);
+    if (op & 32 || op % 8 == 4)
+        size -= size != 0;
+    uint8_t *at = lend(&text_part, sizeof made, size, (int)(op & 1));
+    memcpy(at, made, size);
+    if (op & 32) {
+        same(pollencart_apply_line(table, length, at, size, w, w + 1, s) == plain_apply_line(plain, length, made, size, w + 2, w + 3, s + 4), "apply_line");
+        same(w[0] == w[2] && w[1] == w[3] && s[0] == s[4], "what a line counts, and its place");
+    } else {
+        same(pollencart_apply_lines(table, length, at, size, s, s + 1, s + 2, s + 3) == plain_apply_lines(plain, length, made, size, s + 4, s + 5, s + 6, s + 7), "apply_lines");
+        same(s[0] == s[4] && s[1] == s[5] && s[2] == s[6] && s[3] == s[7], "how far lines came, and the place");
+    }
+    same(!memcmp(at, made, size), "the lines' bytes");
+}
+
 /* One call on both tables. */
 static void call(uint32_t *table, size_t length)
 {
     uint32_t op = number(1), w[4] = { 7, 7, 7, 7 };
+    if ((op & 24) == 24)
+        return text(table, length, op);
     uint8_t p = (uint8_t)number(1), q = (uint8_t)number(1);
     if (op & 128)
         p &= 15, q &= 15;

@@ -14,7 +14,7 @@ long write(int, const void *, size_t);
 void abort(void);
 
 enum { PAGE = 65536, READ_WRITE = 3, PRIVATE = 2, SHARED = 1, ANONYMOUS = 32, OPEN_READ_WRITE = 2 };
-enum { END, TABLE, FRESH, WRITE, SESSION, PURGE, LINE, FRAME, REPLAY, COUNT, COUNT_NODE, LOOK, POKE };
+enum { END, TABLE, FRESH, WRITE, SESSION, PURGE, LINE, FRAME, REPLAY, COUNT, COUNT_NODE, LOOK, POKE, APPLY_LINE, APPLY_LINES };
 
 /* A part that callers lend: `size` bytes that end at the guard. */
 struct lent { uint8_t *guard; };
@@ -55,15 +55,37 @@ static uint32_t *put(uint32_t *out, const void *from, size_t bytes)
     return out + (bytes + 3) / 4;
 }
 
-/* The answers to a line: check, kind, fields 0 to 5, a field far out, and whether the line stayed. */
+/* The answers of read into this many words: number, place, and the words, which begin as A5A5A5A5. */
+static uint32_t *values(const uint8_t *at, uint32_t size, uint32_t many, uint32_t *out)
+{
+    size_t place = 0xFFFFFFFF;
+    uint32_t *words = (uint32_t *)(void *)lend(&the_list, 0, 4 * (size_t)many);
+    __builtin_memset(words, 0xA5, 4 * (size_t)many);
+    *out++ = pollencart_read_line(at, size, words, many, &place);
+    *out++ = (uint32_t)place;
+    return put(out, words, 4 * (size_t)many);
+}
+
+/* The answers to a line: check and its place, kind, fields 0 to 5, a field far out, what read gives into seven words, its number and place
+ * with five and whether those stayed, and whether the line stayed. */
 static uint32_t *line(const uint32_t *bytes, uint32_t size, uint32_t *out)
 {
     const uint8_t *at = lend(&the_bytes, bytes, size);
-    *out++ = pollencart_check(at, size);
+    size_t place = 0xFFFFFFFF;
+    *out++ = pollencart_check_line(at, size, &place);
+    *out++ = (uint32_t)place;
     *out++ = pollencart_kind(at, size);
     for (uint32_t i = 0; i < 6; i++)
         *out++ = pollencart_field(at, size, i);
     *out++ = pollencart_field(at, size, 0xFFFFFFFF);
+    out = values(at, size, 7, out);
+    uint32_t *few = out;
+    out = values(at, size, 5, out);
+    uint32_t stayed = 1;
+    for (uint32_t i = 2; i < 7; i++)
+        stayed = stayed && few[i] == 0xA5A5A5A5;
+    few[2] = stayed;
+    out = few + 3;
     *out++ = __builtin_memcmp(at, bytes, size) == 0;
     return out;
 }
@@ -119,6 +141,24 @@ static uint32_t *step(uint32_t op, const uint32_t *c, uint32_t *out)
     return put(out, table, 4 * (size_t)length);
 }
 
+/* One line on the table, or many: the number, what is stored, the table's words, and whether the bytes stayed. */
+static uint32_t *apply(uint32_t op, const uint32_t *bytes, uint32_t size, uint32_t *out)
+{
+    const uint8_t *at = lend(&the_bytes, bytes, size);
+    uint32_t first = 0xFFFFFFFF, second = 0xFFFFFFFF;
+    size_t applied = (size_t)-1, refused = (size_t)-1, stopped = (size_t)-1, place = (size_t)-1;
+    if (op == APPLY_LINE) {
+        *out++ = pollencart_apply_line(table, length, at, size, &first, &second, &place);
+        *out++ = first, *out++ = second, *out++ = (uint32_t)place;
+    } else {
+        *out++ = pollencart_apply_lines(table, length, at, size, &applied, &refused, &stopped, &place);
+        *out++ = (uint32_t)applied, *out++ = (uint32_t)refused, *out++ = (uint32_t)stopped, *out++ = (uint32_t)place;
+        *out++ = (uint32_t)((applied | refused | stopped | place) >> 32);
+    }
+    *out++ = __builtin_memcmp(at, bytes, size) == 0;
+    return put(out, table, 4 * (size_t)length);
+}
+
 static uint32_t *look(const uint32_t *c, uint32_t *out)
 {
     *out++ = pollencart_summary(table, length, (uint8_t)c[0], (uint8_t)c[1]);
@@ -163,6 +203,8 @@ static size_t execute(const uint32_t *c, uint32_t *answers)
             c += 1;
             break;
         case LOOK: out = look(c, out), c += 4; break;
+        case APPLY_LINE:
+        case APPLY_LINES: out = apply(op, c + 1, c[0], out), c += 1 + (c[0] + 3) / 4; break;
         case POKE:
             if (c[0] < length)
                 table[c[0]] = c[1];

@@ -1,21 +1,22 @@
--- Laws of a line's digits: a character's number, the byte of two, the pass over a line, and a field at a byte's place.
+-- Laws of a line's digits: a character's number, the pass over a line, the check byte's characters, and a field at a byte's place.
 use mathlib.Core.Path.{_≡_, refl, sym, _∙_, ap}
-use mathlib.Core.Bool.{Bool, true, false, _&&_, cond, true≢false}
+use mathlib.Core.Bool.{Bool, true, false, _&&_, cond}
 use mathlib.Core.List.{List, [], _∷_, _++_}
 use Prim.Native.Nat.{ℕ, zero, suc, _+_, _-_, _*_, _/_, _%_, _≤_, _<_}
 use native.Mathlib.Omega.{arith}
 use native.Mathlib.Numerals.{add-one}
-use lib.Bits.{bitOr, or-lt, or-add-and, and-le-l, and-le-r}
+use lib.Bits.{bitOr, or-lt}
 use lib.ListN.{length, getD, take, drop, set, length-drop, length-set}
 use lib.Seq.{take-suc, take-all, getD-drop, drop-drop, take-suc-set}
 use lib.Dec.{leb, ltb, eqb}
 use borrow.Author.Tests.{ltb-true, lt-ltb, le-ltb, leb-true, leb-false, le-leb, eqb-true, eqb-false, eq-eqb, ne-eqb}
 use borrow.Author.Count.{below-more}
 use Rattle.meaning.specs.Frames.{digit, digitValue, bytesOf, allDigits, total, number}
+use Rattle.meaning.proofs.BitLaws.{or-left, or-right}
 use Rattle.meaning.proofs.RowLaws.{and-left, and-right}
 use Rattle.meaning.proofs.FrameLaws.{digit-none, length-bytesOf, byte-at, digits-at, digits-all, total-append, number-snoc}
 use Rattle.meaning.proofs.FrameInverses.{digitValue-digit, digit-digitValue}
-use Rattle.digits.specs.Digits.{letterValue, byteOf, weigh, addsUp, sumOf, valuesOf, joinedAt, isCheck, fieldAt}
+use Rattle.digits.specs.Digits.{letterValue, weigh, sumOf, valuesOf, joinedAt, isCheck, fieldAt}
 
 abbrev pub Digit : List ℕ → ℕ → Type 0
 Digit l i = digitValue (getD l i 0) < 16
@@ -54,52 +55,6 @@ digit-letters c h p = go (leb 65 c) (leb c 70) refl refl
     go true false x y = absurd (omega (arith, digit-none c p (λ u v. omega (arith, leb-false c 70 y))))
     go false b x y = absurd (omega (arith, digit-none c p (λ u v. omega (arith, leb-false 65 c x))))
 
--- all are digits exactly if their numbers together have no bit from 16 on
-pub or-below : (a b : ℕ) → a < 16 → b < 16 → bitOr a b < 16
-or-below a b p q = or-lt 4 a b p q
-
-pub or-left : (a b : ℕ) → bitOr a b < 16 → a < 16
-or-left a b h = omega (arith, or-add-and a b, and-le-r a b)
-
-pub or-right : (a b : ℕ) → bitOr a b < 16 → b < 16
-or-right a b h = omega (arith, or-add-and a b, and-le-l a b)
-
--- the byte of two characters
-pub two-none : (high low h l : ℕ) → h ≡ digitValue high → l ≡ digitValue low → 15 < bitOr h l → 256 ≡ byteOf high low
-unfolding byteOf
-two-none high low h l e f p = go (ltb (digitValue high) 16) (ltb (digitValue low) 16) refl refl
-  where
-    go : (a b : Bool) → ltb (digitValue high) 16 ≡ a → ltb (digitValue low) 16 ≡ b → 256 ≡ cond (a && b) (16 * digitValue high + digitValue low) 256
-    go true true x y =
-        let below = or-below h l (omega (arith, ltb-true (digitValue high) 16 x)) (omega (arith, ltb-true (digitValue low) 16 y)) in
-        absurd (omega arith)
-    go true false x y = refl
-    go false b x y = refl
-
-pub byte-digits : (high low : ℕ) → digitValue high < 16 → digitValue low < 16 → byteOf high low ≡ 16 * digitValue high + digitValue low
-unfolding byteOf
-byte-digits high low p q = cc (lt-ltb (digitValue high) 16 p, lt-ltb (digitValue low) 16 q)
-
-pub two-some : (high low h l : ℕ) → h ≡ digitValue high → l ≡ digitValue low → bitOr h l ≤ 15 → 16 * h + l ≡ byteOf high low
-two-some high low h l e f p =
-    let a : digitValue high < 16 = rw e at (or-left h l (omega arith)) in
-    let b : digitValue low < 16 = rw f at (or-right h l (omega arith)) in
-    omega (arith, byte-digits high low a b)
-
-pub byte-below : (high low : ℕ) → byteOf high low ≤ 255
-    → (digitValue high < 16) × (digitValue low < 16) × (byteOf high low ≡ 16 * digitValue high + digitValue low)
-unfolding byteOf
-byte-below high low h = go (ltb (digitValue high) 16) (ltb (digitValue low) 16) refl refl h
-  where
-    whole : ℕ
-    whole = 16 * digitValue high + digitValue low
-
-    go : (a b : Bool) → ltb (digitValue high) 16 ≡ a → ltb (digitValue low) 16 ≡ b → cond (a && b) whole 256 ≤ 255
-        → (digitValue high < 16) × (digitValue low < 16) × (cond (a && b) whole 256 ≡ whole)
-    go true true x y p = (ltb-true (digitValue high) 16 x, ltb-true (digitValue low) 16 y, refl)
-    go true false x y p = absurd (omega arith)
-    go false b x y p = absurd (omega arith)
-
 -- a digit's share of the sum
 pub weigh-even : (place v : ℕ) → place % 2 ≡ 0 → weigh place v ≡ 16 * v % 256
 unfolding weigh
@@ -120,8 +75,8 @@ module _ (l : List ℕ) where
 
   pub seen-more : (seen n d : ℕ) → n < length l → d ≡ digitValue (getD l n 0) → Seen seen n → Seen (bitOr seen d) (n + 1)
   seen-more seen n d h e s = (
-    λ a. or-below seen d (s .0 a) (omega (arith, digits-at l n a h)),
-    λ p i q. below-more (Digit l) n (s .1 (or-left seen d p)) (omega (arith, or-right seen d p)) i q,
+    λ a. or-lt 4 seen d (s .0 a) (omega (arith, digits-at l n a h)),
+    λ p i q. below-more (Digit l) n (s .1 (or-left 16 seen d p)) (omega (arith, or-right 16 seen d p)) i q,
   )
 
   pub seen-all : (seen n : ℕ) → n ≡ length l → Seen seen n → seen ≤ 15 → allDigits l ≡ true
@@ -173,29 +128,6 @@ module _ (l : List ℕ) where
 
   pub sum-all : (n sum : ℕ) → n ≡ length l → length l % 2 ≡ 0 → Sum sum n → sum ≡ total (bytesOf l)
   sum-all n sum e even s = s .0 (length l / 2) (omega arith) ∙ ap total (take-all (length l / 2) (bytesOf l) (omega (arith, length-bytesOf l)))
-
-  -- all are digits, and the sum is zero
-  pub adds-stray : allDigits l ≡ false → false ≡ addsUp l
-  unfolding addsUp
-  adds-stray p = cc
-
-  pub adds-sum : (sum : ℕ) → allDigits l ≡ true → sum ≡ total (bytesOf l) → eqb sum 0 ≡ addsUp l
-  unfolding addsUp
-  adds-sum sum p e = rw (p, e) refl
-
-  pub adds-both : addsUp l ≡ true → (allDigits l ≡ true) × (total (bytesOf l) ≡ 0)
-  unfolding addsUp
-  adds-both h = (
-    and-left (allDigits l) (eqb (total (bytesOf l)) 0) h,
-    eqb-true (total (bytesOf l)) 0 (and-right (allDigits l) (eqb (total (bytesOf l)) 0) h),
-  )
-
-  pub adds-right : allDigits l ≡ true → total (bytesOf l) ≡ 0 → addsUp l ≡ true
-  unfolding addsUp
-  adds-right p e = cc (eq-eqb (total (bytesOf l)) 0 e)
-
-  pub adds-not : addsUp l ≡ false → allDigits l ≡ true → total (bytesOf l) ≡ 0 → ⊥
-  adds-not h p e = true≢false (sym (adds-right p e) ∙ h)
 
 -- the sum of a line, and what it tells
 module _ (l : List ℕ) where

@@ -1,4 +1,4 @@
--- What the functions over a line's digits answer: a letter's number, the byte of two characters, a digit's share of the sum, a field by its place.
+-- What the functions over a line's digits answer: a letter's number, a digit's share of the sum, the sum, the digits' numbers, a field by its place.
 use mathlib.Core.Path.{_≡_}
 use mathlib.Core.Bool.{Bool, true, _&&_, cond}
 use mathlib.Core.List.{List, [], _∷_}
@@ -11,17 +11,9 @@ use Rattle.meaning.specs.Frames.{digitValue, bytesOf, allDigits, total, number}
 unfoldable pub letterValue : ℕ → ℕ
 letterValue c = cond (leb 65 c && leb c 70) (c - 55) 16
 
--- the byte of two characters, 256 where one is no digit
-unfoldable pub byteOf : ℕ → ℕ → ℕ
-byteOf high low = cond (ltb (digitValue high) 16 && ltb (digitValue low) 16) (16 * digitValue high + digitValue low) 256
-
 -- what a digit's number adds to the sum, by its place: the first of a byte's two counts 16 times
 unfoldable pub weigh : ℕ → ℕ → ℕ
 weigh place v = cond (eqb (place % 2) 0) (16 * v % 256) v
-
--- all are digits, and the sum is zero
-unfoldable pub addsUp : List ℕ → Bool
-addsUp l = allDigits l && eqb (total (bytesOf l)) 0
 
 -- the sum of the line's bytes, 256 where a character is no digit
 unfoldable pub sumOf : List ℕ → ℕ

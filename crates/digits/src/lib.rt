@@ -4,7 +4,7 @@ ghost use mathlib.Core.Path.{_≡_};
 ghost use Prim.Native.Nat.{_+_, _*_, _%_, _≤_, _<_};
 ghost use lib.ListN.{length};
 ghost use Rattle.meaning.specs.Frames.{digitValue, strayAt, digit};
-ghost use Rattle.digits.specs.Digits.{letterValue, byteOf, weigh, addsUp, sumOf, valuesOf, joinedAt, Joins, isCheck, fieldAt, Within};
+ghost use Rattle.digits.specs.Digits.{letterValue, weigh, sumOf, valuesOf, joinedAt, Joins, isCheck, fieldAt, Within};
 
 // The number of a letter A to F, 16 for any other character.
 fn letter(c: u8) -> u8
@@ -28,18 +28,6 @@ fn digit_value(c: u8) -> u8
     }
 }
 
-// The byte of two characters, 256 where one of them is no digit.
-pub fn two(high: u8, low: u8) -> u32
-    ensures { λ r. ⌜ r ≡ byteOf high low ⌝ }
-{
-    let h = digit_value(high);
-    let l = digit_value(low);
-    if 15 < h | l {
-        return 256;
-    }
-    16 * (h as u32) + l as u32
-}
-
 // What a digit of this number adds to the sum, by its place in the line: the first of a byte's two counts 16 times.
 fn weighed(v: u8, place: usize) -> u8
     ensures { λ r. ⌜ r ≡ weigh place v ⌝ }
@@ -48,27 +36,6 @@ fn weighed(v: u8, place: usize) -> u8
         return (16 * (v as u32) % 256) as u8;
     }
     v
-}
-
-// Whether a line of bytes has only digits and its sum is zero: "all bytes of the frame add up to zero, the sum wrapping at 256". One
-// character a turn and no early end, so that it becomes vector code where the length is known.
-pub fn adds_up(s: &[u8]) -> bool
-    requires { ⌜ length (now s) % 2 ≡ 0 ⌝ }
-    ensures { λ r. ⌜ r ≡ addsUp (now (s .entry)) ⌝ }
-{
-    let mut seen: u8 = 0;
-    let mut sum: u8 = 0;
-    let mut k: usize = 0;
-    while k < s.len() {
-        let v = digit_value(s[k]);
-        seen = seen | v;
-        sum = std::num::wrapping_add_u8(sum, weighed(v, k));
-        k += 1;
-    }
-    if 15 < seen {
-        return false;
-    }
-    sum == 0
 }
 
 // The sum of the bytes of a line of even length, "wrapping at 256"; 256 where a character is no digit. One character a turn and no early end,
@@ -81,9 +48,9 @@ pub fn total(s: &[u8]) -> u32
     let mut sum: u8 = 0;
     let mut k: usize = 0;
     while k < s.len() {
-        let x = digit_value(s[k]);
-        seen = seen | x;
-        sum = std::num::wrapping_add_u8(sum, weighed(x, k));
+        let v = digit_value(s[k]);
+        seen = seen | v;
+        sum = std::num::wrapping_add_u8(sum, weighed(v, k));
         k += 1;
     }
     if 15 < seen {

@@ -1,13 +1,17 @@
 // What a case prints: its name, then what the library answered.
 ghost use Prim.Native.Nat.{_≤_};
 ghost use Rattle.meaning.specs.Table.{nodesMost};
-use meaning::Action;
 use meaning::Line;
 use meaning::Reply;
-use meaning::Step;
 
 // A number after its label.
 pub(crate) fn field(label: &[u8], n: u32) {
+    io::write_all(1, label);
+    io::print_decimal(1, n as u64);
+}
+
+// A place after its label.
+pub(crate) fn place(label: &[u8], n: usize) {
     io::write_all(1, label);
     io::print_decimal(1, n as u64);
 }
@@ -18,7 +22,7 @@ fn word(t: &[u32], at: usize) -> u32 {
 }
 
 // A number of all the words: it differs where one word differs.
-fn digest(t: &[u32]) -> u64 {
+pub(crate) fn digest(t: &[u32]) -> u64 {
     let mut sum: u64 = 0;
     let mut i: usize = 0;
     while i < t.len() {
@@ -71,7 +75,7 @@ fn unchanged(before: u64, after: u64) {
 }
 
 // The reply, with the table afterwards.
-fn reply(t: &[u32], name: &[u8], r: Reply, before: u64) {
+pub(crate) fn reply(t: &[u32], name: &[u8], r: Reply, before: u64) {
     match r {
         Reply::Written => line(t, name, 0, 0, 0),
         Reply::Carried { a, b } => line(t, name, 0, a, b),
@@ -81,41 +85,6 @@ fn reply(t: &[u32], name: &[u8], r: Reply, before: u64) {
             unchanged(before, digest(t));
         }
     }
-}
-
-// One action on the table, and what it replied.
-fn act(t: &mut [u32], name: &[u8], action: Action) {
-    let before = digest(t);
-    let r = table::apply(t, Step { line: 2, action });
-    reply(t, name, r, before);
-}
-
-// A write of block 16 with verdict 20.
-pub(crate) fn write(t: &mut [u32], name: &[u8], node: u8, timestamp: u32) {
-    let action = Action::Write {
-        node,
-        timestamp,
-        block: 16,
-        verdict: 0x20,
-    };
-    act(t, name, action);
-}
-
-// A session of 0 with 1.
-pub(crate) fn session(t: &mut [u32], name: &[u8], ca: u32, cb: u32, outcome: u8) {
-    let action = Action::Session {
-        a: 0,
-        b: 1,
-        ca,
-        cb,
-        outcome,
-    };
-    act(t, name, action);
-}
-
-// A purge.
-pub(crate) fn purge(t: &mut [u32], name: &[u8], node: u8) {
-    act(t, name, Action::Purge { node });
 }
 
 // Making a table of n nodes of these words.
@@ -128,12 +97,18 @@ pub(crate) fn fresh(t: &mut [u32], name: &[u8], n: u32) {
     }
 }
 
-// The refusal number of a line, 0 for none.
-fn number_of(answer: Line) -> u32 {
+// A refusal, and its place in the line.
+pub(crate) fn refusal(number: u32, at: usize) {
+    field(b"refusal ", number);
+    place(b" at ", at);
+}
+
+// What a single line says: the refusal and its place, or none.
+fn said(answer: Line) {
     match answer {
-        Line::Begin { .. } => 0,
-        Line::Act { .. } => 0,
-        Line::Refused { number } => number,
+        Line::Begin { .. } => field(b"refusal ", 0),
+        Line::Act { .. } => field(b"refusal ", 0),
+        Line::Refused { number, place } => refusal(number, place),
     }
 }
 
@@ -141,6 +116,7 @@ fn number_of(answer: Line) -> u32 {
 pub(crate) fn frame(name: &[u8]) {
     io::write_all(1, b"line ");
     io::write_all(1, name);
-    field(b": refusal ", number_of(reading::read_line(name, 1)));
+    io::write_all(1, b": ");
+    said(reading::read_line(name, 1));
     io::write_all(1, b"\n");
 }

@@ -4,7 +4,7 @@ use mathlib.Core.Bool.{Bool, true, false, not, _&&_, _||_, cond, true≢false}
 use mathlib.Core.List.{List, [], _∷_}
 use Prim.Native.Nat.{ℕ, _+_, _-_, _*_, _%_, _≤_, _<_}
 use native.Mathlib.Omega.{arith}
-use lib.Bits.{bitOr}
+use lib.Bits.{bitOr, or-lt}
 use lib.ListN.{length, getD, take, drop, length-drop}
 use lib.Seq.{take-all}
 use lib.Dec.{leb, ltb, eqb}
@@ -23,7 +23,6 @@ use Rattle.meaning.specs.Frames.{
   digitsIn,
   digitsOf,
   lineKind,
-  outcomeHigh,
   startWrong,
 }
 use Rattle.meaning.proofs.RowLaws.{and-left, and-right}
@@ -41,7 +40,8 @@ use Rattle.meaning.proofs.FrameLaws.{
 }
 use Rattle.meaning.proofs.FrameInverses.{digit-digitValue}
 use Rattle.digits.specs.Digits.{sumOf, isCheck, fieldAt}
-use Rattle.digits.proofs.DigitLaws.{or-below, or-left, or-right, byte-field, sum-right, sum-digits, check-digits, check-right}
+use Rattle.meaning.proofs.BitLaws.{or-left, or-right}
+use Rattle.digits.proofs.DigitLaws.{byte-field, sum-right, sum-digits, check-digits, check-right}
 use Rattle.heads.specs.Heads.{accepted, shortOf, mayHold, isOutcome}
 use Rattle.heads.proofs.FieldLaws.{kind-lengths, start-test, start-other, outcome-test, outcome-other}
 use Rattle.heads.proofs.HeadLaws.{accepted-good, accepted-is, accepted-not, six}
@@ -367,7 +367,7 @@ module _ (a b c d e f h l : ℕ) (p : h ≡ digitValue c) (q : l ≡ digitValue 
   short-stray s =
       short-none (six a b c d e f) (λ g.
       let asked = good-six a b c d e f g in
-      let below = or-below h l (omega (arith, asked .1)) (omega (arith, asked .2)) in
+      let below = or-lt 4 h l (omega (arith, asked .1)) (omega (arith, asked .2)) in
       omega arith)
 
   sum-is : 16 * h + l ≡ 16 * digitValue c + digitValue d
@@ -384,8 +384,8 @@ module _ (a b c d e f h l : ℕ) (p : h ≡ digitValue c) (q : l ≡ digitValue 
   pub short-right : a ≡ 48 → bitOr h l ≤ 15 → mayHold b (16 * h + l) ≡ true → isCheck (b - 48 + (16 * h + l)) e f ≡ true
       → 256 * (b - 48) + (16 * h + l) ≡ shortOf (six a b c d e f)
   short-right x s t u =
-      let high = or-left h l (omega arith) in
-      let low = or-right h l (omega arith) in
+      let high = or-left 16 h l (omega arith) in
+      let low = or-right 16 h l (omega arith) in
       let held = ap (mayHold b) (sym sum-is) ∙ t in
       let check = ap (λ (n : ℕ). isCheck (b - 48 + n) e f) (sym sum-is) ∙ u in
       ap (λ (n : ℕ). 256 * (b - 48) + n) sum-is ∙ six-held a b c d e f (x, omega arith, omega arith, held, check)

@@ -1,19 +1,18 @@
 -- What a line says once the quick way is sure of it: a write, a session, a purge or a start by its digits' numbers. For the reader of one line and
 -- for a journal's loop.
 use mathlib.Core.Path.{_≡_, refl, sym, _∙_, ap}
-use mathlib.Core.List.{List, [], _∷_}
+use mathlib.Core.List.{List}
 use Prim.Native.Nat.{ℕ, _+_, _*_, _/_, _%_, _≤_, _<_}
 use native.Mathlib.Omega.{arith}
 use lib.ListN.{length, getD, drop, length-drop}
 use Rattle.meaning.specs.declared.Action.{Action}
 use Rattle.meaning.specs.declared.Action.the-variants.{Write, Session, Purge}
-use Rattle.meaning.specs.declared.Line.{Line}
 use Rattle.meaning.specs.declared.Line.the-variants.{Begin, Act}
 use Rattle.meaning.specs.Frames.{bytesOf, journalKinds, widthsIn, actionOf, lineKind, lineFields, readLine}
 use Rattle.meaning.proofs.FrameLaws.{Good, clear, read-begin, read-act}
 use Rattle.digits.specs.Digits.{sumOf, valuesOf, joinedAt, fieldAt}
 use Rattle.digits.proofs.DigitLaws.{joined-field, field-after}
-use Rattle.heads.specs.Heads.{shortOf, writeAt, sessionAt, purgeAt}
+use Rattle.heads.specs.Heads.{shortOf, writeAt, sessionAt}
 use Rattle.heads.proofs.FieldLaws.{fieldsFrom, line-fields, action-write, action-session, action-purge}
 use Rattle.heads.proofs.QuickLaws.{write-is, write-good, session-is, session-good, field-small, short-tells}
 

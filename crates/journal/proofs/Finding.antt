@@ -152,7 +152,8 @@ unfolding nextIn
 end-over first s at line e = go (leb (length s) at) (unended s at) refl e
   where
     go : (a b : Bool) → leb (length s) at ≡ a
-        → cond a End (cond b (RefusedAt 14 (length (drop at s))) (inTurn first (placeAfter s at) (readLine line (lineAt s at)))) ≡ End → leb (length s) at ≡ true
+        → cond a End (cond b (RefusedAt 14 (length (drop at s))) (inTurn first (placeAfter s at) (readLine line (lineAt s at)))) ≡ End
+        → leb (length s) at ≡ true
     go true b p r = p
     go false true p r = never (cc)
     go false false p r = never (turn-goes first (placeAfter s at) (readLine line (lineAt s at)) r)

@@ -11,6 +11,8 @@ use Rattle.journal.proofs.next_at.Kinds as next-at-kinds
 use Rattle.journal.proofs.next_at.Reads as next-at
 use Rattle.journal.proofs.next_in.Kinds as next-in-kinds
 use Rattle.journal.proofs.next_in.Reads as next-in
+use Rattle.journal.proofs.said.Kinds as said-kinds
+use Rattle.journal.proofs.said.Reads as said
 use Rattle.journal.proofs.part_at.Kinds as part-at-kinds
 use Rattle.journal.proofs.part_at.Reads as part-at
 use Rattle.journal.proofs.position_at.Kinds as position-at-kinds
@@ -27,6 +29,9 @@ one-next-at κs a x y s s' p q = p ∙ sym q
 
 pub one-next-in : OneResult 1 next-in-kinds.ps next-in-kinds.r next-in.Post
 one-next-in κs a x y s s' p q = p ∙ sym q
+
+pub one-said : OneResult 1 said-kinds.ps said-kinds.r said.Post
+one-said κs a x y s s' p q = p ∙ sym q
 
 pub one-part-at : OneReply 1 part-at-kinds.ps part-at-kinds.r part-at.Post (λ κs x s. seen x)
 one-part-at κs a x y s s' p q = one-part p q

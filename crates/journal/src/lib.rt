@@ -1,6 +1,7 @@
 // The journal reader on a slice and a place: the line there, what it says, its part and the place after it.
 // Document 01, "Frames and journals".
 ghost use mathlib.Core.Path.{_≡_};
+ghost use Rattle.meaning.specs.Frames.{readLine};
 ghost use Rattle.meaning.specs.Journals.{lineAt, nextIn, nextAt, inTurn};
 ghost use Rattle.journal.specs.Found.{foundAt};
 ghost use Rattle.journal.specs.Parts.{Part, partAt, positionAt};
@@ -74,6 +75,14 @@ fn in_turn(first: bool, next: usize, said: Line) -> Next
     }
 }
 
+// What a line says in its turn, with the place after it. The one caller of `read_line`, which is then compiled into it.
+pub fn said(line: &[u8], number: usize, first: bool, next: usize) -> Next
+    ensures { λ r. ⌜ r ≡ inTurn first next (readLine number (now (line .entry))) ⌝ }
+{
+    let what = reading::read_line(line, number);
+    in_turn(first, next, what)
+}
+
 // What the reader finds at a place, told the line number and whether the line there is the first. 14 tells the length of what is left.
 pub fn next_in(s: &[u8], at: usize, line: usize, first: bool) -> Next
     ensures { λ r. ⌜ r ≡ nextIn first (now (s .entry)) at line ⌝ }
@@ -87,10 +96,7 @@ pub fn next_in(s: &[u8], at: usize, line: usize, first: bool) -> Next
                 place: left,
             }
         }
-        Found::Line { end } => {
-            let said = reading::read_line(&s[at..end], line);
-            in_turn(first, end + 1, said)
-        }
+        Found::Line { end } => said(&s[at..end], line, first, end + 1),
     }
 }
 

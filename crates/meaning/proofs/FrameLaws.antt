@@ -15,6 +15,7 @@ use Rattle.meaning.specs.declared.Action.the-variants.{Write, Session, P
 use Rattle.meaning.specs.declared.Framed.the-variants.{Length, Refused as Unframed}
 use Rattle.meaning.specs.Refusals.{Test, test, testAt, first, firstPlace}
 use Rattle.meaning.specs.Table.{countRight, place}
+use Rattle.meaning.specs.Rows.{unless}
 use Rattle.meaning.specs.Steps.{outcomeAbove}
 use Rattle.meaning.specs.Frames.{
   digitValue,
@@ -63,9 +64,26 @@ use Rattle.meaning.specs.Frames.{
   meant,
   framedValues,
   framed,
+  wordsTests,
+  wordsFault,
+  sixValues,
+  wordsAfter,
 }
 use Rattle.meaning.proofs.RowLaws.{and-left, and-right}
-use Rattle.meaning.proofs.RefusalLaws.{none, numbered, Gives, given-at, passed-at, first-given, first-passed, none-first, place-none}
+use Rattle.meaning.proofs.RefusalLaws.{
+  none,
+  numbered,
+  Gives,
+  given-at,
+  passed-at,
+  first-given,
+  first-passed,
+  given-before,
+  given-after,
+  first-none,
+  none-first,
+  place-none,
+}
 
 -- a digit's number, and 16 for any other character
 pub digit-decimal : (c : ℕ) → 48 ≤ c → c ≤ 57 → digitValue c ≡ c - 48
@@ -611,3 +629,47 @@ value-start out n = go (starterRefusal out n)
     go : (k : ℕ) → getD (framedValues (framed k (startFrame n))) 1 0 ≤ 27
     go zero = rw (length-start n) (omega arith)
     go (suc k) = omega arith
+
+-- a line read in one call: refused, or accepted with too few words, or with enough
+module _ (l words : List ℕ) where
+  abbrev room : List Test
+  room = test 17 (ltb (length words) 6) ∷ []
+
+  refused-some : (lineRefusal l ≡ 0 → ⊥) → none (lineTests l) ≡ false
+  unfolding lineRefusal
+  refused-some h = go (none (lineTests l)) refl
+    where
+      go : (b : Bool) → none (lineTests l) ≡ b → b ≡ false
+      go true e = absurd (h (first-none (lineTests l) e))
+      go false e = refl
+
+  pub words-refused : (lineRefusal l ≡ 0 → ⊥) → (lineFault l ≡ wordsFault l words) × (words ≡ wordsAfter l words)
+  unfolding lineFault wordsFault wordsAfter wordsTests lineRefusal linePlace
+  words-refused h =
+      let given = given-before (lineTests l) room (refused-some h) in
+      (λ i. record { number = sym (given .0) i; place = sym (given .1) i }, go (first (lineTests l ++ room)) (λ z. h (sym (given .0) ∙ z)))
+    where
+      go : (k : ℕ) → (k ≡ 0 → ⊥) → words ≡ unless k (place 0 (sixValues l) words) words
+      go zero p = absurd (p refl)
+      go (suc k) p = refl
+
+  module _ (p : lineRefusal l ≡ 0) where
+    after-line : Gives (lineTests l ++ room) (first room) (firstPlace room)
+    unfolding lineRefusal lineTests fieldTests numbered
+    after-line = given-after (lineTests l) room (none-first (lineTests l) refl p)
+
+    pub words-few : length words < 6 → (record { number = 17; place = 0 } ≡ wordsFault l words) × (words ≡ wordsAfter l words)
+    unfolding wordsFault wordsAfter wordsTests
+    words-few h =
+        let here = given-at 17 0 (ltb (length words) 6) [] (lt-ltb (length words) 6 h) in
+        let number = after-line .0 ∙ here .0 in
+        let at = after-line .1 ∙ here .1 in
+        (λ i. record { number = sym number i; place = sym at i }, rw number refl)
+
+    pub words-full : 6 ≤ length words → (record { number = 0; place = 0 } ≡ wordsFault l words) × (place 0 (sixValues l) words ≡ wordsAfter l words)
+    unfolding wordsFault wordsAfter wordsTests first firstPlace
+    words-full h =
+        let here = passed-at 17 0 (ltb (length words) 6) [] (le-ltb (length words) 6 h) in
+        let number = after-line .0 ∙ here .0 in
+        let at = after-line .1 ∙ here .1 in
+        (λ i. record { number = sym number i; place = sym at i }, rw number refl)

@@ -101,6 +101,37 @@ unfolding stepsFrom
 steps-end zero s at line e = refl
 steps-end (suc k) s at line e = rw (e, stepsFrom)
 
+-- the steps are no more than their bound, and a refused line is the next after them
+pub steps-few : (k : ℕ) (s : List ℕ) (at line : ℕ) → length (stepsFrom k s at line .steps) ≤ k
+unfolding stepsFrom
+steps-few zero s at line = omega arith
+steps-few (suc k) s at line = go (nextIn false s at line) refl (λ next. steps-few k s next (line + 1))
+  where
+    go : (x : Next) → nextIn false s at line ≡ x → ((next : ℕ) → length (stepsFrom k s next (line + 1) .steps) ≤ k)
+        → length (stepsFrom (suc k) s at line .steps) ≤ suc k
+    go (BeginAt n next) e few = rw (steps-begin k s at line e) (omega arith)
+    go (ActAt x next) e few = let l = few next in rw (steps-act k s at line e) (omega arith)
+    go (RefusedAt j p) e few = rw (steps-refused k s at line e) (omega arith)
+    go End e few = rw (steps-end (suc k) s at line e) (omega arith)
+
+pub bad-line : (k : ℕ) (s : List ℕ) (at line : ℕ) → 0 < stepsFrom k s at line .badNumber
+    → stepsFrom k s at line .badLine ≡ line + length (stepsFrom k s at line .steps)
+unfolding stepsFrom
+bad-line zero s at line h = absurd (omega arith)
+bad-line (suc k) s at line h = go (nextIn false s at line) refl h (λ next. bad-line k s next (line + 1))
+  where
+    go : (x : Next) → nextIn false s at line ≡ x → 0 < stepsFrom (suc k) s at line .badNumber
+        → ((next : ℕ) → 0 < stepsFrom k s next (line + 1) .badNumber
+        → stepsFrom k s next (line + 1) .badLine ≡ line + 1 + length (stepsFrom k s next (line + 1) .steps))
+        → stepsFrom (suc k) s at line .badLine ≡ line + length (stepsFrom (suc k) s at line .steps)
+    go (BeginAt n next) e b rest = rw (steps-begin k s at line e) (omega arith)
+    go (ActAt x next) e b rest =
+        let d = steps-act k s at line e in
+        let l = rest next (rw d at b) in
+        rw d (omega arith)
+    go (RefusedAt j p) e b rest = rw (steps-refused k s at line e) (omega arith)
+    go End e b rest = absurd (let z : 0 < 0 = rw (steps-end (suc k) s at line e) at b in omega arith)
+
 -- a line's refusal has a number
 abbrev lineNumbered : Line → Bool
 lineNumbered (Begin n) = true

@@ -2,6 +2,7 @@ pub mod Edges
 pub mod PlaceLaws
 pub mod PieceLaws
 pub mod RowLaws
+pub mod BitLaws
 pub mod RefusalLaws
 pub mod TableLaws
 pub mod StepLaws

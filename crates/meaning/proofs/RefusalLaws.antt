@@ -62,6 +62,26 @@ place-is [] x ys n h = rw h
 place-is (y ∷ xs) x ys n h =
     rw (not-true (y .applies) (and-left (not (y .applies)) (none xs) n)) (place-is xs x ys (and-right (not (y .applies)) (none xs) n) h)
 
+-- Tests after others: they are not asked where one before them applies, and alone where none does
+pub given-before : (xs ys : List Test) → none xs ≡ false → Gives (xs ++ ys) (first xs) (firstPlace xs)
+unfolding first firstPlace none
+given-before [] ys h = absurd (true≢false h)
+given-before (x ∷ xs) ys h = go (x .applies) (given-before xs ys) h
+  where
+    go : (b : Bool) → (none xs ≡ false → Gives (xs ++ ys) (first xs) (firstPlace xs)) → not b && none xs ≡ false
+        → (cond b (x .number) (first (xs ++ ys)) ≡ cond b (x .number) (first xs))
+        × (cond b (x .place) (firstPlace (xs ++ ys)) ≡ cond b (x .place) (firstPlace xs))
+    go true ih e = (refl, refl)
+    go false ih e = ih e
+
+pub given-after : (xs ys : List Test) → none xs ≡ true → Gives (xs ++ ys) (first ys) (firstPlace ys)
+unfolding first firstPlace none
+given-after [] ys n = (refl, refl)
+given-after (x ∷ xs) ys n =
+    let here = not-true (x .applies) (and-left (not (x .applies)) (none xs) n) in
+    let rest = given-after xs ys (and-right (not (x .applies)) (none xs) n) in
+    (rw here (rest .0), rw here (rest .1))
+
 -- None: 0 is given exactly where no test applies, and the place is 0 too
 pub first-none : (xs : List Test) → none xs ≡ true → first xs ≡ 0
 unfolding first none

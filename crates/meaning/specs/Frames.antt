@@ -268,3 +268,28 @@ abbrev pub lineValues : Line → List ℕ
 lineValues (Begin n) = 0 ∷ 0 ∷ 0 ∷ n ∷ []
 lineValues (Act s) = 0 ∷ 0 ∷ kindOf (s .action) ∷ fieldsOf (s .action)
 lineValues (Refused k p) = k ∷ p ∷ []
+
+-- A line read in one call, its kind and fields into lent words (T-01): the line's refusals in their order, then 17 where fewer than six words are
+-- lent, with place 0
+unfoldable pub wordsTests : List ℕ → List ℕ → List Test
+wordsTests l words = lineTests l ++ (test 17 (ltb (length words) 6) ∷ [])
+
+unfoldable pub wordsFault : List ℕ → List ℕ → Fault
+wordsFault l words = faultOf (wordsTests l words)
+
+-- as many values as are asked for: the list's, and 0 after them
+unfoldable pub padded : ℕ → List ℕ → List ℕ
+padded zero xs = []
+padded (suc k) [] = 0 ∷ padded k []
+padded (suc k) (x ∷ xs) = x ∷ padded k xs
+
+-- the six values of a line: its kind and fields, 0 where the kind has no such field
+unfoldable pub sixValues : List ℕ → List ℕ
+sixValues l = padded 6 (drop 2 (lineValues (readLine 0 l)))
+
+-- the words at exit: those six over the first six, and with a refusal what was there
+unfoldable pub wordsAfter : List ℕ → List ℕ → List ℕ
+wordsAfter l words = unless (first (wordsTests l words)) (place 0 (sixValues l) words) words
+
+abbrev pub ReadWords : List ℕ → List ℕ → Fault → List ℕ → Type 0
+ReadWords l words r words′ = (r ≡ wordsFault l words) × (words′ ≡ wordsAfter l words)

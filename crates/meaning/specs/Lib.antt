@@ -5,5 +5,6 @@ pub mod Node
 pub mod Steps
 pub mod Frames
 pub mod Journals
+pub mod Lines
 pub mod Verdicts
 pub mod Account

@@ -90,6 +90,22 @@ pub enum Outcome {
     },
 }
 
+// What one line on a table answers: the reply, and the place in the line where it is the line that is refused, else 0.
+pub struct Answer {
+    pub reply: Reply,
+    pub place: usize,
+}
+
+// How far lines came on a table: the steps applied, how many of them were refused, where the reading stopped, and the
+// number of the refused line and its place in it, two zeros at the end.
+pub struct Progress {
+    pub steps: usize,
+    pub refused: usize,
+    pub stop: usize,
+    pub number: u32,
+    pub place: usize,
+}
+
 // The class of a verdict byte.
 pub enum Class {
     NotRead,

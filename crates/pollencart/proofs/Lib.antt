@@ -1,4 +1,5 @@
 pub mod CountReplies
 pub mod FrameReplies
+pub mod LineReplies
 pub mod ReplayReplies
 pub mod TableReplies

@@ -1,54 +1,70 @@
 // Frames read: what a single line says, whatever its bytes. Document 01, "Frames and journals".
 ghost use mathlib.Core.Path.{_≡_};
-ghost use Prim.Native.Nat.{_+_};
-ghost use lib.ListN.{getD};
-ghost use Rattle.meaning.specs.Frames.{readLine, lineFault, lineValues};
-use heads::head;
+ghost use mathlib.Core.List.{[]};
+ghost use Prim.Native.Nat.{_+_, _<_};
+ghost use lib.ListN.{length, getD};
+ghost use Rattle.meaning.specs.Frames.{readLine, lineFault, lineValues, wordsFault, ReadWords};
+use heads::quick;
 use heads::why;
 use meaning::Fault;
 use meaning::Line;
 use meaning::Step;
 
 mod fields;
+mod words;
 
 // The refusal of a single line (without its LF) and its place in it, for any bytes at all: the first that applies, of 12, 18, 11, 19, 20, 13 and
-// 15; two zeros for none.
+// 15; two zeros for none. The other way is lent a part of the slice, so that the slice itself stays in registers.
 pub fn check(s: &[u8]) -> Fault
     ensures { λ r. ⌜ r ≡ lineFault (now (s .entry)) ⌝ }
 {
-    let known = head::head(s);
-    if known == head::REFUSED {
-        return why::refusal(s);
+    if quick::sure(s) {
+        return Fault {
+            number: 0,
+            place: 0,
+        };
     }
-    Fault {
-        number: 0,
-        place: 0,
+    let n = s.len();
+    why::refusal(&s[0..n])
+}
+
+// The kind of a line shorter than a write's.
+fn short_kind(s: &[u8]) -> u32
+    requires { ⌜ length (now s) < 24 ⌝ }
+    ensures { λ r. ⌜ r ≡ getD (lineValues (readLine 0 (now (s .entry)))) 2 0 ⌝ }
+{
+    let held = quick::short_held(s);
+    if quick::NO_LINE <= held {
+        return 0;
     }
+    held / 256
 }
 
 // The kind of a line, 0 for one that is refused. A start's is 0 too: the check tells them apart.
 pub fn kind(s: &[u8]) -> u32
     ensures { λ r. ⌜ r ≡ getD (lineValues (readLine 0 (now (s .entry)))) 2 0 ⌝ }
 {
-    let found = head::head(s);
-    if found == head::REFUSED {
-        return 0;
+    if s.len() < 24 {
+        return short_kind(s);
     }
-    found as u32
+    match s.len() {
+        24 => if quick::is_write(&s[0..24]) { 1 } else { 0 },
+        26 => if quick::is_session(&s[0..26]) { 2 } else { 0 },
+        _ => 0,
+    }
 }
 
 // The field of a line at this place among its kind's fields, from 0; 0 for a refused line and for a field that the kind has not.
 pub fn field(s: &[u8], index: u32) -> u32
     ensures { λ r. ⌜ r ≡ getD (lineValues (readLine 0 (now (s .entry)))) (3 + index) 0 ⌝ }
 {
-    let kind = head::head(s);
-    if kind == head::REFUSED {
-        return 0;
+    if s.len() < 24 {
+        return fields::short_field(s, index);
     }
-    match kind {
-        1 => fields::write_field(s, index),
-        2 => fields::session_field(s, index),
-        _ => fields::short_field(s, index),
+    match s.len() {
+        24 => fields::write_field(&s[0..24], index),
+        26 => fields::session_field(&s[0..26], index),
+        _ => 0,
     }
 }
 
@@ -57,14 +73,14 @@ pub fn field(s: &[u8], index: u32) -> u32
 pub fn read_line(s: &[u8], line: usize) -> Line
     ensures { λ r. ⌜ r ≡ readLine line (now (s .entry)) ⌝ }
 {
-    let kind = head::head(s);
-    if kind == head::REFUSED {
+    if !quick::sure(s) {
         let fault = why::refusal(s);
         return Line::Refused {
             number: fault.number,
             place: fault.place,
         };
     }
+    let kind = digits::byte(s, 0);
     if kind == 0 {
         return Line::Begin {
             n: digits::byte(s, 1),
@@ -74,4 +90,36 @@ pub fn read_line(s: &[u8], line: usize) -> Line
     Line::Act {
         step: Step { line, action },
     }
+}
+
+// The refusal of a line for which fewer than six words are lent: the line's own, and then 17.
+fn few(s: &[u8]) -> Fault
+    ensures { λ r. ⌜ r ≡ wordsFault (now (s .entry)) [] ⌝ }
+{
+    let fault = why::refusal(s);
+    if fault.number != 0 {
+        return fault;
+    }
+    Fault {
+        number: 17,
+        place: 0,
+    }
+}
+
+// A line read in one call: its refusal and place as `check` gives them, and after them 17 where fewer than six words are lent. An accepted line's
+// kind and its fields go into the first six words, 0 where the kind has no such field; a refused line changes none.
+pub fn read_words(s: &[u8], words: &mut [u32]) -> Fault
+    ensures { λ r. ⌜ ReadWords (now (s .entry)) (now (words .entry)) r (now (words .exit)) ⌝ }
+{
+    let long = s.len();
+    if words.len() < 6 {
+        return few(&s[0..long]);
+    }
+    if words::put_sure(s, &mut words[0..6]) {
+        return Fault {
+            number: 0,
+            place: 0,
+        };
+    }
+    why::refusal(&s[0..long])
 }

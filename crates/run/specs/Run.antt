@@ -2,17 +2,13 @@
 use mathlib.Core.Path.{_≡_}
 use mathlib.Core.Bool.{Bool, _&&_, cond}
 use mathlib.Core.List.{List, [], _∷_}
-use Prim.Native.Nat.{ℕ, zero, suc, _+_, _≤_}
+use Prim.Native.Nat.{ℕ, zero, suc}
 use lib.ListN.{length}
 use lib.Dec.{leb, eqb}
 use Rattle.meaning.specs.declared.Outcome.{Outcome}
-use Rattle.meaning.specs.declared.Outcome.the-variants.{Bad, Refused as Unread, Done}
-use Rattle.meaning.specs.declared.Reply.{Reply}
-use Rattle.meaning.specs.declared.Reply.the-variants.{Written, Carried, Purged, Refused}
-use Rattle.meaning.specs.declared.Action.{Action}
-use Rattle.meaning.specs.Table.{tableWords, fresh, Sound}
-use Rattle.meaning.specs.Steps.{refusal, after}
-use Rattle.meaning.specs.Journals.{Steps, Journal, oneIf, stepsFrom, afterAll, refusedOf, replayed, replayAfter, printed, replayText}
+use Rattle.meaning.specs.declared.Outcome.the-variants.{Refused as Unread}
+use Rattle.meaning.specs.Table.{tableWords, fresh}
+use Rattle.meaning.specs.Journals.{Journal, stepsFrom, afterAll, refusedOf, outcomeOf, replayed, replayAfter, printed, replayText}
 use Rattle.text.specs.Text.{Shown, textMost}
 
 -- A table of the wrong length has no room for a fresh one: refusal 1, of no line and at no place, and no word is changed.
@@ -21,21 +17,6 @@ runOutcome t s = cond (eqb (length t) tableWords) (replayed s) (Unread 1)
 
 unfoldable pub runAfter : List ℕ → List ℕ → List ℕ
 runAfter t s = cond (eqb (length t) tableWords) (replayAfter t s) t
-
--- "a refused step is counted and passed over"
-abbrev pub refusedBy : Reply → ℕ
-refusedBy Written = 0
-refusedBy (Carried a b) = 0
-refusedBy (Purged k) = 0
-refusedBy (Refused k) = 1
-
--- The outcome of what is left of a journal, when so many steps are done on the table t, of which so many were refused
-abbrev pub endedBy : ℕ → ℕ → ℕ → ℕ → List ℕ → Steps → Outcome
-endedBy zero n steps refused t x = Done n (steps + length (x .steps)) (refused + refusedOf t (x .steps))
-endedBy (suc k) n steps refused t x = Bad (x .badLine) (suc k) (x .badPlace)
-
-unfoldable pub restOutcome : ℕ → ℕ → ℕ → List ℕ → Steps → Outcome
-restOutcome n steps refused t x = endedBy (x .badNumber) n steps refused t x
 
 -- Document 01's values of a journal's replay, where b is the refused line's number: that line, number and place, or two zeros and the three
 -- counts
@@ -60,17 +41,14 @@ unfoldable pub tableLeft : List ℕ → List ℕ → List ℕ → List ℕ
 tableLeft s t out = cond (roomy t out && leb (length s) journalMost) (replayAfter t s) t
 
 -- What each function answers and leaves.
--- One step on a sound table: 1 where it is refused, else 0, and the table, which stays sound
-pub record Stepped (t : List ℕ) (x : Action) (k : ℕ) (t′ : List ℕ) : Type 0 where
-  pub counts : k ≡ oneIf (refusal t x)
-  pub leaves : t′ ≡ after t x
-  pub isSound : Sound t′
-  pub one : k ≤ 1
+-- A start of n nodes, read up to a place, and the steps from there on
+abbrev pub begunAt : ℕ → List ℕ → ℕ → Journal
+begunAt n s from = record { n = n; rest = stepsFrom (length s) s from 2 }
 
--- The steps of a journal from a place on, applied to a table of n nodes
-pub record RanFrom (s : List ℕ) (from n : ℕ) (t : List ℕ) (r : Outcome) (t′ : List ℕ) : Type 0 where
-  pub outcome : r ≡ restOutcome n 0 0 t (stepsFrom (length s) s from 2)
-  pub table : t′ ≡ afterAll t (stepsFrom (length s) s from 2 .steps)
+-- A journal from there on: the outcome, and a fresh table after its steps
+pub record RanFrom (s : List ℕ) (from n : ℕ) (r : Outcome) (t′ : List ℕ) : Type 0 where
+  pub outcome : r ≡ outcomeOf (begunAt n s from .rest .badNumber) (begunAt n s from)
+  pub table : t′ ≡ afterAll (fresh n) (begunAt n s from .rest .steps)
 
 -- A whole journal over a lent table
 pub record Ran (s t : List ℕ) (r : Outcome) (t′ : List ℕ) : Type 0 where

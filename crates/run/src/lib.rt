@@ -4,89 +4,36 @@ ghost use mathlib.Core.Path.{_≡_};
 ghost use Prim.Native.Nat.{_≤_, _<_};
 ghost use lib.ListN.{length};
 ghost use mathlib.Core.Bool.{true};
-ghost use Rattle.meaning.specs.Table.{tableWords, countRight, Sound};
+ghost use Rattle.meaning.specs.Table.{tableWords, countRight};
 ghost use Rattle.text.specs.Text.{textMost};
-ghost use Rattle.run.specs.Run.{refusedBy, Stepped, RanFrom, Ran, RunTold, Replayed};
+ghost use Rattle.run.specs.Run.{RanFrom, Ran, RunTold, Replayed};
 use layout::TABLE_WORDS;
 use meaning::Next;
 use meaning::Outcome;
-use meaning::Reply;
-use meaning::Step;
 use text::TEXT_MOST;
 
 // The most bytes of a journal that the program takes.
 pub const JOURNAL_MOST: usize = 65536;
 
-// 1 for a refused step
-fn count(r: Reply) -> usize
-    ensures { λ k. ⌜ k ≡ refusedBy r ⌝ }
-{
-    match r {
-        Reply::Written => 0,
-        Reply::Carried { a: _, b: _ } => 0,
-        Reply::Purged { removed: _ } => 0,
-        Reply::Refused { number: _ } => 1,
-    }
-}
-
-// One step on a sound table, which it leaves sound: whether it was refused.
-fn step(t: &mut [u32], x: Step) -> usize
-    requires { ⌜ Sound (now t) ⌝ }
-    ensures { λ k. ⌜ Stepped (now (t .entry)) (x .action) k (now (t .exit)) ⌝ }
-{
-    let action = x.action;
-    let r = table::apply_sound(t, action);
-    count(r)
-}
-
-// The steps from a place on, up to the journal's end or the first refused line.
-fn steps(s: &[u8], from: usize, n: u32, t: &mut [u32]) -> Outcome
-    requires { ⌜ Sound (now t) × (0 < from) × (from ≤ length (now s)) ⌝ }
-    ensures { λ r. ⌜ RanFrom (now (s .entry)) from n (now (t .entry)) r (now (t .exit)) ⌝ }
-{
-    let mut at = from;
-    let mut line = 2;
-    let mut refused = 0;
-    loop {
-        match journal::next_in(s, at, line, false) {
-            Next::Begin { n: _, next: _ } => {
-                return Outcome::Bad {
-                    line,
-                    number: 15,
-                    place: 0,
-                };
-            }
-            Next::Act { step: x, next } => {
-                refused += step(t, x);
-                at = next;
-                line += 1;
-            }
-            Next::Refused { number, place } => {
-                return Outcome::Bad {
-                    line,
-                    number,
-                    place,
-                };
-            }
-            Next::End => {
-                let done = line - 2;
-                return Outcome::Done {
-                    n,
-                    steps: done,
-                    refused,
-                };
-            }
-        }
-    }
-}
-
-// A start of n nodes: a fresh table, then the steps after its line.
+// A start of n nodes: a fresh table, then the steps after its line. The start is line 1, so a refused line has the number `steps + 2`.
 fn from_start(s: &[u8], from: usize, n: u32, t: &mut [u32]) -> Outcome
     requires { ⌜ (length (now t) ≡ tableWords) × (countRight n ≡ true) × (0 < from) × (from ≤ length (now s)) ⌝ }
-    ensures { λ r. ⌜ RanFrom (now (s .entry)) from n (Rattle.meaning.specs.Table.fresh n) r (now (t .exit)) ⌝ }
+    ensures { λ r. ⌜ RanFrom (now (s .entry)) from n r (now (t .exit)) ⌝ }
 {
     table::fresh(t, n);
-    steps(s, from, n, t)
+    let came = lines::apply_from(s, from, 2, t);
+    if came.number == 0 {
+        return Outcome::Done {
+            n,
+            steps: came.steps,
+            refused: came.refused,
+        };
+    }
+    Outcome::Bad {
+        line: came.steps + 2,
+        number: came.number,
+        place: came.place,
+    }
 }
 
 // "applies its steps to a fresh table; a refused step is counted and passed over. A refused line ends it"

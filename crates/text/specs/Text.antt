@@ -8,8 +8,8 @@ use lib.Dec.{leb, eqb}
 use Rattle.meaning.specs.declared.Outcome.{Outcome}
 use Rattle.meaning.specs.declared.Outcome.the-variants.{Bad, Refused, Done}
 use Rattle.meaning.specs.Rows.{ascii}
-use Rattle.meaning.specs.Table.{tableWords, nodesMost, count, part, place}
-use Rattle.meaning.specs.Journals.{outcomeValues, spaced, said, nodeLines}
+use Rattle.meaning.specs.Table.{tableWords, nodesMost, count, place}
+use Rattle.meaning.specs.Journals.{outcomeValues, said, nodeLines}
 
 -- "`BAD line number`", and the place "as a third number after `BAD`"
 abbrev pub badLine : ℕ → ℕ → ℕ → List ℕ
@@ -23,10 +23,6 @@ unreadLine number = said "BAD" (0 ∷ number ∷ []) ++ ascii "\n"
 abbrev pub firstLine : ℕ → ℕ → ℕ → List ℕ
 firstLine n steps refused = said "N" (n ∷ []) ++ (said " STEPS" (steps ∷ []) ++ (said " REFUSED" (refused ∷ []) ++ ascii "\n"))
 
--- a word and the first n entries of the table's row at a place
-abbrev pub saidPart : List ℕ → List ℕ → ℕ → List ℕ
-saidPart word t from = word ++ spaced (part from (count t) t)
-
 -- The text of an outcome by its values: no line and a number; a refused line, its number and place; or after two zeros the three counts, and then
 -- the nodes
 abbrev pub printedOf : List ℕ → List ℕ → List ℕ
@@ -34,11 +30,6 @@ printedOf vs t =
     cond (eqb (length vs) 2) (unreadLine (getD vs 1 0))
     (cond (eqb (length vs) 3) (badLine (getD vs 0 0) (getD vs 1 0) (getD vs 2 0))
     (firstLine (getD vs 2 0) (getD vs 3 0) (getD vs 4 0) ++ nodeLines (getD vs 2 0) t))
-
--- A list of words with a table's length, and a count that its rows have room for
-pub record Nodes (t : List ℕ) : Type 0 where
-  pub long : length t ≡ tableWords
-  pub few : count t ≤ nodesMost
 
 -- Room for the text of every outcome: 79 bytes for its first line and 720 for the line of each of 16 nodes are 11,599.
 abbrev pub textMost : ℕ

@@ -5,12 +5,12 @@ ghost use Rattle.meaning.specs.declared.Action.the-variants.{Write};
 ghost use Rattle.meaning.specs.Table.{logMost, count, held, node, putNode, Sound};
 ghost use Rattle.meaning.specs.Node.{wrote};
 ghost use Rattle.looks.specs.Applied.{Applied};
-use logs::put_record;
 use looks::held_of;
 use looks::nodes_of;
 use looks::own_of;
 use meaning::Record;
 use meaning::Reply;
+use records::put_record;
 use rows::put_word;
 
 // "The record with origin p goes after the last held record of p; the summary entry of p for itself becomes t."

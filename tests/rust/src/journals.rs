@@ -70,7 +70,7 @@ fn make_exact(bytes: &[u8], left: usize) -> Option<Vec<u8>> {
 }
 
 /// Damages a journal's lines in one of many ways, or, as often, in none.
-fn damage(rng: &mut Random, journal: &mut Vec<Vec<u8>>) {
+pub fn damage(rng: &mut Random, journal: &mut Vec<Vec<u8>>) {
     let many = journal.len() as u32;
     let at = rng.below(many) as usize;
     match rng.below(24) {
@@ -115,7 +115,7 @@ fn compare(library: &mut Library, journal: &[u8], words: u32, room: u32, reached
     reached.add(&match () {
         () if nothing => "replay nothing".into(),
         () if done => "replay done".into(),
-        () => format!("replay {}", should.trim_end().rsplit(' ').next().unwrap()),
+        () => format!("replay {}", should.trim_end().split(' ').nth(2).unwrap()),
     });
     if done && journal.len() == JOURNAL {
         reached.add("replay of 65536 bytes");

@@ -85,6 +85,16 @@ impl Calls {
         self.0.extend([11, node.into(), origin.into(), index, word]);
     }
 
+    pub fn apply_line(&mut self, line: &[u8]) {
+        self.0.extend([13, line.len() as u32]);
+        self.bytes(line);
+    }
+
+    pub fn apply_lines(&mut self, lines: &[u8]) {
+        self.0.extend([14, lines.len() as u32]);
+        self.bytes(lines);
+    }
+
     pub fn poke(&mut self, index: u32, value: u32) {
         self.0.extend([12, index, value]);
     }

@@ -13,6 +13,7 @@ mod random;
 mod reached;
 mod shrink;
 mod steps;
+mod texts;
 
 use library::Library;
 use reached::Reached;
@@ -22,12 +23,14 @@ use std::time::Instant;
 const STEPS: usize = 1_000_000;
 const LINES: usize = 1_000_000;
 const JOURNALS: usize = 4_000;
+const TEXTS: usize = 200_000;
 
 /// What is to be run: how much of each, from which seed, or one seed of one kind alone.
 struct Wanted {
     steps: usize,
     lines: usize,
     journals: usize,
+    texts: usize,
     first: u64,
     only: Option<(String, u64)>,
     edges: bool,
@@ -36,23 +39,24 @@ struct Wanted {
 }
 
 fn usage() -> ! {
-    eprintln!("compare [--times K] [--steps N] [--lines N] [--journals N] [--from SEED] [--only steps|lines|journals SEED] [--no-edges] --through PROGRAM WORDS.. | --program REPLAY WORDS..");
+    eprintln!("compare [--times K] [--steps N] [--lines N] [--journals N] [--texts N] [--from SEED] [--only steps|lines|journals|texts SEED] [--no-edges] --through PROGRAM WORDS.. | --program REPLAY WORDS..");
     std::process::exit(2)
 }
 
 fn wanted() -> Wanted {
-    let mut wanted = Wanted { steps: STEPS, lines: LINES, journals: JOURNALS, first: 1, only: None, edges: true, through: Vec::new(), program: Vec::new() };
+    let mut wanted = Wanted { steps: STEPS, lines: LINES, journals: JOURNALS, texts: TEXTS, first: 1, only: None, edges: true, through: Vec::new(), program: Vec::new() };
     let mut words = std::env::args().skip(1);
     while let Some(word) = words.next() {
         let mut number = || words.next().and_then(|x| x.parse::<usize>().ok()).unwrap_or_else(|| usage());
         match word.as_str() {
             "--times" => {
                 let k = number();
-                (wanted.steps, wanted.lines, wanted.journals) = (wanted.steps * k, wanted.lines * k, wanted.journals * k);
+                (wanted.steps, wanted.lines, wanted.journals, wanted.texts) = (wanted.steps * k, wanted.lines * k, wanted.journals * k, wanted.texts * k);
             }
             "--steps" => wanted.steps = number(),
             "--lines" => wanted.lines = number(),
             "--journals" => wanted.journals = number(),
+            "--texts" => wanted.texts = number(),
             "--from" => wanted.first = number() as u64,
             "--only" => {
                 let kind = words.next().unwrap_or_else(|| usage());
@@ -71,7 +75,7 @@ fn wanted() -> Wanted {
 /// A kind of input: its name and the run of one of its seeds, which tells how much it had.
 type Kind = (&'static str, fn(&mut Library, u64, &mut Reached) -> Result<usize, String>);
 
-const KINDS: [Kind; 3] = [("steps", steps::seed), ("lines", lines::seed), ("journals", journals::seed)];
+const KINDS: [Kind; 4] = [("steps", steps::seed), ("lines", lines::seed), ("journals", journals::seed), ("texts", texts::seed)];
 
 fn fail(kind: &str, told: &str) -> ! {
     println!("MISMATCH in {kind}, {told}");
@@ -104,7 +108,7 @@ fn main() {
         edges::all(&mut library).unwrap_or_else(|told| fail("edges", &told));
         println!("the edges and the sample of document 01: as it says");
     }
-    for ((name, run), many) in KINDS.into_iter().zip([wanted.steps, wanted.lines, wanted.journals]) {
+    for ((name, run), many) in KINDS.into_iter().zip([wanted.steps, wanted.lines, wanted.journals, wanted.texts]) {
         let (began, mut done, mut seed) = (Instant::now(), 0, wanted.first);
         while done < many {
             let did = run(&mut library, seed, &mut reached).unwrap_or_else(|told| fail(name, &told));
@@ -116,7 +120,7 @@ fn main() {
     let never = reached.report();
     if !never.is_empty() {
         println!("NEVER REACHED: {}", never.join("; "));
-        if wanted.steps >= STEPS && wanted.lines >= LINES && wanted.journals >= JOURNALS {
+        if wanted.steps >= STEPS && wanted.lines >= LINES && wanted.journals >= JOURNALS && wanted.texts >= TEXTS {
             std::process::exit(1);
         }
     }

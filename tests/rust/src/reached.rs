@@ -8,7 +8,7 @@ use std::collections::BTreeMap;
 pub struct Reached(BTreeMap<String, u64>);
 
 /// Everything that a run must have reached at least once.
-const MUST: [&str; 63] = [
+const MUST: [&str; 95] = [
     "fresh 0",
     "fresh 1",
     "write 0",
@@ -52,6 +52,9 @@ const MUST: [&str; 63] = [
     "line 12",
     "line 13",
     "line 15",
+    "line 18",
+    "line 19",
+    "line 20",
     "frame start 0",
     "frame start 15",
     "frame start 17",
@@ -70,8 +73,37 @@ const MUST: [&str; 63] = [
     "replay 14",
     "replay 15",
     "replay 16",
+    "replay 18",
+    "replay 19",
+    "replay 20",
     "replay of 65536 bytes",
     "replay with steps refused",
+    "apply_line 0",
+    "apply_line 1",
+    "apply_line 3",
+    "apply_line 4",
+    "apply_line 5",
+    "apply_line 6",
+    "apply_line 11",
+    "apply_line 12",
+    "apply_line 13",
+    "apply_line 15",
+    "apply_line 18",
+    "apply_line 19",
+    "apply_line 20",
+    "apply_lines 0",
+    "apply_lines 1",
+    "apply_lines 11",
+    "apply_lines 12",
+    "apply_lines 13",
+    "apply_lines 14",
+    "apply_lines 15",
+    "apply_lines 18",
+    "apply_lines 19",
+    "apply_lines 20",
+    "apply_lines of none",
+    "apply_lines stopped after steps",
+    "apply_lines with steps refused",
 ];
 
 impl Reached {
@@ -116,7 +148,7 @@ impl Reached {
         }
     }
 
-    fn when(&mut self, it_is: bool, what: &str) {
+    pub fn when(&mut self, it_is: bool, what: &str) {
         if it_is {
             self.add(what);
         }

@@ -1,5 +1,5 @@
 -- `stray_at` meets its contract: the loop's invariant is that all characters passed are digits.
-use mathlib.Core.Path.{sym, _∙_}
+use mathlib.Core.Path.{sym}
 use Prim.Native.Nat.{ℕ, _-_, _≤_, _<_}
 use native.Mathlib.Omega.{arith}
 use lib.ListN.{length}

@@ -28,43 +28,40 @@ sub-left c =
 enum-known-end : tie.Need-enum-known-end
 enum-known-end c = search needs
 
-sub-read-line : tie.Need-sub-read-line
-sub-read-line c =
+sub-said : tie.Need-sub-said
+sub-said c =
     let at-end = c .before in
     let at-find = at-end .before .before in
     let a = at-find .before .before .args in
     let f = line-facts (now (a .s)) (a .at) _ (sym (at-find .find .ensures) ∙ at-end .end .given .1) in
     omega arith
 
-part-read-line-start : tie.Need-part-read-line-start
-part-read-line-start c =
+part-said-start : tie.Need-part-said-start
+part-said-start c =
     let at-end = c .before in
     let at-find = at-end .before .before in
     let a = at-find .before .before .args in
     let f = line-facts (now (a .s)) (a .at) _ (sym (at-find .find .ensures) ∙ at-end .end .given .1) in
     omega arith
 
-part-read-line-end : tie.Need-part-read-line-end
-part-read-line-end c =
+part-said-end : tie.Need-part-said-end
+part-said-end c =
     let at-end = c .before in
     let at-find = at-end .before .before in
     let a = at-find .before .before .args in
     let f = line-facts (now (a .s)) (a .at) _ (sym (at-find .find .ensures) ∙ at-end .end .given .1) in
     omega arith
 
-read-line-requires : tie.Need-read-line-requires
-read-line-requires c κs = search needs
-
-add-in-turn : tie.Need-add-in-turn
-add-in-turn c =
-    let at-end = c .before .before .before in
+add-said : tie.Need-add-said
+add-said c =
+    let at-end = c .before .before in
     let at-find = at-end .before .before in
     let a = at-find .before .before .args in
     let f = line-facts (now (a .s)) (a .at) _ (sym (at-find .find .ensures) ∙ at-end .end .given .1) in
     omega arith
 
-in-turn-requires : tie.Need-in-turn-requires
-in-turn-requires c κs = search needs
+said-requires : tie.Need-said-requires
+said-requires c κs = search needs
 
 returns : tie.Need-returns
 returns c =
@@ -80,11 +77,11 @@ returns-2 c =
 
 returns-3 : tie.Need-returns-3
 returns-3 c =
-    let at-end = c .before .before .before .before in
+    let at-end = c .before .before .before in
     let at-find = at-end .before .before in
     let a = at-find .before .before .args in
     let e = sym (at-find .find .ensures) ∙ at-end .end .given .1 in
-    c .in-turn .ensures ∙ rw (c .before .read-line .ensures) (next-line (a .first) (now (a .s)) (a .at) _ (a .line) e)
+    c .said .ensures ∙ next-line (a .first) (now (a .s)) (a .at) _ (a .line) e
 
 pub next-in-spec : {M : Type 1} → statement M
 next-in-spec =
@@ -95,12 +92,11 @@ next-in-spec =
     enum-told-2
     sub-left
     enum-known-end
-    sub-read-line
-    part-read-line-start
-    part-read-line-end
-    read-line-requires
-    add-in-turn
-    in-turn-requires
+    sub-said
+    part-said-start
+    part-said-end
+    add-said
+    said-requires
     returns
     returns-2
     returns-3)

@@ -82,4 +82,19 @@ returns-4 c =
     (λ g. eq-eqb sum 254 (is ∙ sym (good-session s (start .pre) g .3)))
 
 pub is-session-spec : {M : Type 1} → statement M
-is-session-spec = tie.close (tie.spec shared-slice-read-if1 returns shared-slice-read-if2 returns-2 shared-slice-read-is-outcome shared-slice-read-is-outcome-2 is-outcome-requires returns-3 sub-total part-total-start part-total-end total-requires returns-4)
+is-session-spec =
+    tie.close
+    (tie.spec
+    shared-slice-read-if1
+    returns
+    shared-slice-read-if2
+    returns-2
+    shared-slice-read-is-outcome
+    shared-slice-read-is-outcome-2
+    is-outcome-requires
+    returns-3
+    sub-total
+    part-total-start
+    part-total-end
+    total-requires
+    returns-4)

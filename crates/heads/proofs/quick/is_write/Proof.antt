@@ -41,4 +41,12 @@ returns-3 c =
     (λ g. eq-eqb sum 0 (is ∙ sym (good-write s (start .pre) g .2)))
 
 pub is-write-spec : {M : Type 1} → statement M
-is-write-spec = tie.close (tie.spec shared-slice-read-if1 returns shared-slice-read-if2 returns-2 total-requires returns-3)
+is-write-spec =
+    tie.close
+    (tie.spec
+    shared-slice-read-if1
+    returns
+    shared-slice-read-if2
+    returns-2
+    total-requires
+    returns-3)

@@ -42,4 +42,15 @@ returns-2 c =
     c .short-line .ensures ∙ ap shortOf (six-of s (at-if1 .if1 .left))
 
 pub short-held-spec : {M : Type 1} → statement M
-short-held-spec = tie.close (tie.spec returns shared-slice-read-short-line shared-slice-read-short-line-2 shared-slice-read-short-line-3 shared-slice-read-short-line-4 shared-slice-read-short-line-5 shared-slice-read-short-line-6 short-line-requires returns-2)
+short-held-spec =
+    tie.close
+    (tie.spec
+    returns
+    shared-slice-read-short-line
+    shared-slice-read-short-line-2
+    shared-slice-read-short-line-3
+    shared-slice-read-short-line-4
+    shared-slice-read-short-line-5
+    shared-slice-read-short-line-6
+    short-line-requires
+    returns-2)

@@ -3,7 +3,7 @@ use mathlib.Core.Path.{sym, _∙_}
 use Prim.Native.Nat.{_+_, _*_}
 use native.Mathlib.Omega.{arith}
 use borrow.Author.Tests.{not-true, not-false}
-use Rattle.digits.proofs.DigitLaws.{or-left, or-right}
+use Rattle.meaning.proofs.BitLaws.{or-left, or-right}
 use Rattle.heads.proofs.QuickLaws.{short-first, short-stray, short-unheld, short-unchecked, short-right, hold-char}
 use borrow.Author.Needs.{needs}
 use Rattle.heads.proofs.quick.short_line.Statement.{statement}
@@ -32,14 +32,14 @@ mul-n c =
     let at-wide2 = c .before in
     let h = at-wide2 .before .wide-value .result in
     let l = at-wide2 .wide-value2 .result in
-    omega (arith, or-left h l (omega (arith, c .if2 .left)), or-right h l (omega (arith, c .if2 .left)))
+    omega (arith, or-left 16 h l (omega (arith, c .if2 .left)), or-right 16 h l (omega (arith, c .if2 .left)))
 
 add-n : tie.Need-add-n
 add-n c =
     let at-wide2 = c .before in
     let h = at-wide2 .before .wide-value .result in
     let l = at-wide2 .wide-value2 .result in
-    omega (arith, or-left h l (omega (arith, c .if2 .left)), or-right h l (omega (arith, c .if2 .left)))
+    omega (arith, or-left 16 h l (omega (arith, c .if2 .left)), or-right 16 h l (omega (arith, c .if2 .left)))
 
 may-hold-requires : tie.Need-may-hold-requires
 may-hold-requires c κs = search needs
@@ -65,7 +65,7 @@ sub-kind c =
     let x = at-wide2 .before .before .before .args in
     let held = sym (at-held .may-hold .ensures) ∙ not-false (at-held .may-hold .result) (c .if3 .left) in
     let char = hold-char (x .b) (16 * h + l) held in
-    omega (arith, char, or-left h l (omega (arith, below)), or-right h l (omega (arith, below)))
+    omega (arith, char, or-left 16 h l (omega (arith, below)), or-right 16 h l (omega (arith, below)))
 
 add-is-check : tie.Need-add-is-check
 add-is-check c =
@@ -77,7 +77,7 @@ add-is-check c =
     let x = at-wide2 .before .before .before .args in
     let held = sym (at-held .may-hold .ensures) ∙ not-false (at-held .may-hold .result) (c .if3 .left) in
     let char = hold-char (x .b) (16 * h + l) held in
-    omega (arith, char, or-left h l (omega (arith, below)), or-right h l (omega (arith, below)))
+    omega (arith, char, or-left 16 h l (omega (arith, below)), or-right 16 h l (omega (arith, below)))
 
 is-check-requires : tie.Need-is-check-requires
 is-check-requires c κs =
@@ -89,7 +89,7 @@ is-check-requires c κs =
     let x = at-wide2 .before .before .before .args in
     let held = sym (at-held .may-hold .ensures) ∙ not-false (at-held .may-hold .result) (c .if3 .left) in
     let char = hold-char (x .b) (16 * h + l) held in
-    omega (arith, char, or-left h l (omega (arith, below)), or-right h l (omega (arith, below)))
+    omega (arith, char, or-left 16 h l (omega (arith, below)), or-right 16 h l (omega (arith, below)))
 
 returns-4 : tie.Need-returns-4
 returns-4 c =
@@ -112,7 +112,7 @@ mul-result c =
     let x = at-wide2 .before .before .before .args in
     let held = sym (at-held .may-hold .ensures) ∙ not-false (at-held .may-hold .result) (c .before .before .if3 .left) in
     let char = hold-char (x .b) (16 * h + l) held in
-    omega (arith, char, or-left h l (omega (arith, below)), or-right h l (omega (arith, below)))
+    omega (arith, char, or-left 16 h l (omega (arith, below)), or-right 16 h l (omega (arith, below)))
 
 add-result : tie.Need-add-result
 add-result c =
@@ -124,7 +124,7 @@ add-result c =
     let x = at-wide2 .before .before .before .args in
     let held = sym (at-held .may-hold .ensures) ∙ not-false (at-held .may-hold .result) (c .before .before .if3 .left) in
     let char = hold-char (x .b) (16 * h + l) held in
-    omega (arith, char, or-left h l (omega (arith, below)), or-right h l (omega (arith, below)))
+    omega (arith, char, or-left 16 h l (omega (arith, below)), or-right 16 h l (omega (arith, below)))
 
 returns-5 : tie.Need-returns-5
 returns-5 c =
@@ -142,4 +142,21 @@ returns-5 c =
     (sym (at-check .is-check .ensures) ∙ not-false (at-check .is-check .result) (c .if4 .left))
 
 pub short-line-spec : {M : Type 1} → statement M
-short-line-spec = tie.close (tie.spec returns wide-value-requires wide-value-requires-2 returns-2 mul-n add-n may-hold-requires returns-3 sub-kind add-is-check is-check-requires returns-4 mul-result add-result returns-5)
+short-line-spec =
+    tie.close
+    (tie.spec
+    returns
+    wide-value-requires
+    wide-value-requires-2
+    returns-2
+    mul-n
+    add-n
+    may-hold-requires
+    returns-3
+    sub-kind
+    add-is-check
+    is-check-requires
+    returns-4
+    mul-result
+    add-result
+    returns-5)

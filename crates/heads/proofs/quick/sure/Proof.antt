@@ -61,4 +61,19 @@ returns-4 c =
     sym (accepted-not s (λ g. no-length s g (omega (arith, at-if1 .if1 .left)) (other .0 .1) (other .1)))
 
 pub sure-spec : {M : Type 1} → statement M
-sure-spec = tie.close (tie.spec short-held-requires returns sub-is-write part-is-write-start part-is-write-end is-write-requires sub-is-session part-is-session-start part-is-session-end is-session-requires returns-2 returns-3 returns-4)
+sure-spec =
+    tie.close
+    (tie.spec
+    short-held-requires
+    returns
+    sub-is-write
+    part-is-write-start
+    part-is-write-end
+    is-write-requires
+    sub-is-session
+    part-is-session-start
+    part-is-session-end
+    is-session-requires
+    returns-2
+    returns-3
+    returns-4)

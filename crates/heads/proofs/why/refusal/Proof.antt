@@ -1,6 +1,5 @@
 -- `refusal` meets its contract: a law for each clause, in their order; the rest is `spelled`'s.
 use mathlib.Core.Path.{_≡_, sym, _∙_}
-use Prim.Native.Nat.{_<_, _≤_}
 use native.Mathlib.Omega.{arith}
 use lib.ListN.{length}
 use Rattle.meaning.specs.Frames.{strayAt}

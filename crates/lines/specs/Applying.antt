@@ -1,0 +1,44 @@
+-- What each function that applies lines answers and leaves: the definitions of `Lines`, and what the loop over the lines counts and keeps.
+use mathlib.Core.Path.{_≡_}
+use mathlib.Core.List.{List}
+use Prim.Native.Nat.{ℕ, _≤_}
+use lib.ListN.{length}
+use Rattle.meaning.specs.declared.Action.{Action}
+use Rattle.meaning.specs.declared.Reply.{Reply}
+use Rattle.meaning.specs.declared.Reply.the-variants.{Written, Carried, Purged, Refused}
+use Rattle.meaning.specs.declared.Answer.{Answer}
+use Rattle.meaning.specs.declared.Progress.{Progress}
+use Rattle.meaning.specs.Table.{Sound}
+use Rattle.meaning.specs.Steps.{refusal, after}
+use Rattle.meaning.specs.Journals.{oneIf, stepsFrom, afterAll}
+use Rattle.meaning.specs.Lines.{lineReply, lineAfter, progress, linesReply, linesAfter}
+
+-- A line's refusal: the number, at its place in the line
+abbrev pub refusedLine : ℕ → ℕ → Answer
+refusedLine k p = record { reply = Refused k; place = p }
+
+-- "a refused step is counted and passed over"
+abbrev pub refusedBy : Reply → ℕ
+refusedBy Written = 0
+refusedBy (Carried a b) = 0
+refusedBy (Purged k) = 0
+refusedBy (Refused k) = 1
+
+-- One step on a sound table: 1 where it is refused, else 0, and the table, which stays sound
+pub record Stepped (t : List ℕ) (x : Action) (k : ℕ) (t′ : List ℕ) : Type 0 where
+  pub counts : k ≡ oneIf (refusal t x)
+  pub leaves : t′ ≡ after t x
+  pub isSound : Sound t′
+  pub one : k ≤ 1
+
+-- The steps from a place on, applied to a table; the line there has the number `first`
+pub record AppliedFrom (s : List ℕ) (from first : ℕ) (t : List ℕ) (r : Progress) (t′ : List ℕ) : Type 0 where
+  pub answer : r ≡ progress t (stepsFrom (length s) s from first)
+  pub table : t′ ≡ afterAll t (stepsFrom (length s) s from first .steps)
+
+-- One line, and many
+abbrev pub AppliedLine : List ℕ → List ℕ → Answer → List ℕ → Type 0
+AppliedLine t l r t′ = (r ≡ lineReply t l) × (t′ ≡ lineAfter t l)
+
+abbrev pub AppliedLines : List ℕ → List ℕ → Progress → List ℕ → Type 0
+AppliedLines t s r t′ = (r ≡ linesReply t s) × (t′ ≡ linesAfter t s)

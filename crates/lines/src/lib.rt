@@ -1,0 +1,147 @@
+// What lines do to a table that is there already: one line, and many, up to the first refused one. Document 01, "Frames and journals".
+// The entry points, `apply_line` and `apply_lines`, take any words and any bytes at all.
+ghost use mathlib.Core.Path.{_≡_};
+ghost use Prim.Native.Nat.{_+_, _≤_};
+ghost use lib.ListN.{length};
+ghost use Rattle.meaning.specs.Table.{Sound};
+ghost use Rattle.looks.specs.Applied.{Applied};
+ghost use Rattle.lines.specs.Applying.{refusedLine, refusedBy, Stepped, AppliedFrom, AppliedLine, AppliedLines};
+use meaning::Action;
+use meaning::Answer;
+use meaning::Next;
+use meaning::Progress;
+use meaning::Reply;
+use meaning::Step;
+
+// One action on any words, by its fields. `table::apply` does the same; `apply_from` alone calls what stands below that, so that it is compiled
+// into the loop.
+fn act(t: &mut [u32], action: Action) -> Reply
+    ensures { λ r. ⌜ Applied (now (t .entry)) action r (now (t .exit)) ⌝ }
+{
+    match action {
+        Action::Write {
+            node,
+            timestamp,
+            block,
+            verdict,
+        } => table::act::write(t, node, timestamp, block, verdict),
+        Action::Session {
+            a,
+            b,
+            ca,
+            cb,
+            outcome,
+        } => table::act::session(t, a, b, ca, cb, outcome),
+        Action::Purge { node } => table::act::purge(t, node),
+    }
+}
+
+// A line's refusal, at its place
+fn refused(number: u32, place: usize) -> Answer
+    ensures { λ r. ⌜ r ≡ refusedLine number place ⌝ }
+{
+    Answer {
+        reply: Reply::Refused { number },
+        place,
+    }
+}
+
+// One line on any words: the line's refusal with its place, 15 for a start, or what its step reports; a refusal changes no word.
+pub fn apply_line(t: &mut [u32], line: &[u8]) -> Answer
+    ensures { λ r. ⌜ AppliedLine (now (t .entry)) (now (line .entry)) r (now (t .exit)) ⌝ }
+{
+    match journal::said(line, 1, false, 0) {
+        Next::Begin { n: _, next: _ } => refused(15, 0),
+        Next::Act { step, next: _ } => {
+            let action = step.action;
+            let reply = act(t, action);
+            Answer { reply, place: 0 }
+        }
+        Next::Refused { number, place } => refused(number, place),
+        Next::End => refused(15, 0),
+    }
+}
+
+// 1 for a refused step
+fn count(r: Reply) -> usize
+    ensures { λ k. ⌜ k ≡ refusedBy r ⌝ }
+{
+    match r {
+        Reply::Written => 0,
+        Reply::Carried { a: _, b: _ } => 0,
+        Reply::Purged { removed: _ } => 0,
+        Reply::Refused { number: _ } => 1,
+    }
+}
+
+// One step on a sound table, which it leaves sound: whether it was refused.
+fn step(t: &mut [u32], x: Step) -> usize
+    requires { ⌜ Sound (now t) ⌝ }
+    ensures { λ k. ⌜ Stepped (now (t .entry)) (x .action) k (now (t .exit)) ⌝ }
+{
+    let action = x.action;
+    let r = table::apply_sound(t, action);
+    count(r)
+}
+
+// The steps from a place on, up to the end or the first refused line, on a sound table; `first` is the number of the line there.
+pub fn apply_from(s: &[u8], from: usize, first: usize, t: &mut [u32]) -> Progress
+    requires { ⌜ Sound (now t) × (first ≤ from + 1) × (from ≤ length (now s)) ⌝ }
+    ensures { λ r. ⌜ AppliedFrom (now (s .entry)) from first (now (t .entry)) r (now (t .exit)) ⌝ }
+{
+    let mut steps = 0;
+    let mut refused = 0;
+    let mut stop = from;
+    loop {
+        match journal::next_in(s, stop, first + steps, false) {
+            Next::Begin { n: _, next: _ } => {
+                return Progress {
+                    steps,
+                    refused,
+                    stop,
+                    number: 15,
+                    place: 0,
+                };
+            }
+            Next::Act { step: x, next } => {
+                steps += 1;
+                refused += step(t, x);
+                stop = next;
+            }
+            Next::Refused { number, place } => {
+                return Progress {
+                    steps,
+                    refused,
+                    stop,
+                    number,
+                    place,
+                };
+            }
+            Next::End => {
+                return Progress {
+                    steps,
+                    refused,
+                    stop,
+                    number: 0,
+                    place: 0,
+                };
+            }
+        }
+    }
+}
+
+// Many lines on any words, after one look over them: a table that is not sound is refused before any line is read.
+pub fn apply_lines(t: &mut [u32], s: &[u8]) -> Progress
+    ensures { λ r. ⌜ AppliedLines (now (t .entry)) (now (s .entry)) r (now (t .exit)) ⌝ }
+{
+    if !soundness::is_sound(t) {
+        return Progress {
+            steps: 0,
+            refused: 0,
+            stop: 0,
+            number: 1,
+            place: 0,
+        };
+    }
+    apply_from(s, 0, 1, t)
+}
