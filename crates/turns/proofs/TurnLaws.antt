@@ -10,7 +10,7 @@ use lib.Seq.{getD-take, getD-drop, length-take-le}
 use borrow.Author.Tests.{leb-true, leb-false, eqb-true, eqb-false, eq-eqb, ne-eqb, lt-leb}
 use Rattle.meaning.specs.declared.Action.{Action}
 use Rattle.meaning.specs.declared.Line.{Line}
-use Rattle.meaning.specs.declared.Line.the-variants.{Act}
+use Rattle.meaning.specs.declared.Line.the-variants.{Begin, Act, Refused}
 use Rattle.meaning.specs.declared.Next.the-variants.{Act as ActAt}
 use Rattle.meaning.specs.declared.Reply.{Reply}
 use Rattle.meaning.specs.declared.Action.the-variants.{Write, Session, Purge}
@@ -27,7 +27,8 @@ use Rattle.digits.proofs.DigitLaws.{sum-digits, length-values, values-small}
 use Rattle.heads.specs.Heads.{shortOf}
 use Rattle.heads.proofs.QuickLaws.{kind-chars, no-length, good-write, good-session, field-small, short-tells, short-refused, rest-part}
 use Rattle.heads.proofs.SaidLaws.{writeOf, write-line, sessionOf, outcome-of, session-line, purge-line}
-use Rattle.turns.specs.Turns.{dueBy, endsAt, dueAt, saidAt, refusedBy, toldOf, leftBy, Turned, Begins}
+use Rattle.meaning.specs.Lines.{leftBy}
+use Rattle.turns.specs.Turns.{dueBy, endsAt, dueAt, saidAt, refusedBy, toldOf, Turned, Begins}
 
 -- a refused step counts 1, and any other 0
 reported-none : (t : List ℕ) (x : Action) → refusedBy (reported t x) ≡ 0
@@ -64,6 +65,19 @@ module _ (t : List ℕ) (sound : Sound t) (l : List ℕ) where
       go (suc k) e =
           let is = read-refused 1 k l e in
           record { tells = ap (toldOf t) is; leaves = ap (leftBy t) is; isSound = sound }
+
+pub one-most : (k : ℕ) → oneIf k ≤ 1
+one-most zero = omega arith
+one-most (suc k) = omega arith
+
+-- a turn that is not sure leaves the table as it was
+pub unsure : {t : List ℕ} {x : Line} {told : ℕ} {t′ : List ℕ} → Turned t x told t′ → 2 ≤ told → t′ ≡ t
+unsure {t} {x} {told} {t′} d h = go x (d .tells) (d .leaves)
+  where
+    go : (y : Line) → told ≡ toldOf t y → t′ ≡ leftBy t y → t′ ≡ t
+    go (Begin n) p q = q
+    go (Act z) p q = absurd (omega (arith, one-most (refusal t (z .action))))
+    go (Refused k n) p q = q
 
 -- the numbers of a line's digits, where the line has only digits
 module _ (l v : List ℕ) (sum : ℕ) (es : sum ≡ sumOf l) (ev : v ≡ valuesOf l) (low : sum < 256) where
@@ -293,7 +307,7 @@ digits-until (suc k) (c ∷ cs) d e =
 -- What a turn that is sure tells: the reader finds the step there, whatever the line number, and the turn has applied it
 pub record Taken (s : List ℕ) (at due : ℕ) (t : List ℕ) (told : ℕ) (t′ : List ℕ) : Type 0 where
   pub action : Action
-  pub found : (line : ℕ) → nextIn false s at line ≡ ActAt (record { line = line; action = action }) (at + due + 1)
+  pub found : (line : ℕ) → nextIn false s at line ≡ ActAt (record { line = line; action = action }) (at + (due + 1))
   pub room : at + due < length s
   pub counts : told ≡ oneIf (refusal t action)
   pub leaves : t′ ≡ after t action
@@ -318,7 +332,7 @@ module _ (s : List ℕ) (at due : ℕ) (e : due ≡ dueAt s at) where
         let is = digits-until due (drop at s) (g .digits) lf-there in
         (line-ended s at (is .1) ∙ is .0, is .1)
 
-    after-is : placeAfter s at ≡ at + due + 1
+    after-is : placeAfter s at ≡ at + (due + 1)
     unfolding placeAfter
     after-is =
         let room = due-room s at due e some-due in
@@ -326,7 +340,7 @@ module _ (s : List ℕ) (at due : ℕ) (e : due ≡ dueAt s at) where
         omega (arith, ap length (front-is .0), long)
 
     found-act : {x : Action} (line : ℕ) → Act (record { line = line; action = x }) ≡ readLine line front
-        → nextIn false s at line ≡ ActAt (record { line = line; action = x }) (at + due + 1)
+        → nextIn false s at line ≡ ActAt (record { line = line; action = x }) (at + (due + 1))
     unfolding nextIn
     found-act {x} line is =
         let room = due-room s at due e some-due in

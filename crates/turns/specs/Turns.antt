@@ -11,9 +11,10 @@ use Rattle.meaning.specs.declared.Line.the-variants.{Begin, Act, Refused}
 use Rattle.meaning.specs.declared.Reply.{Reply}
 use Rattle.meaning.specs.declared.Reply.the-variants.{Written, Carried, Purged, Refused as RefusedWith}
 use Rattle.meaning.specs.Table.{Sound}
-use Rattle.meaning.specs.Steps.{refusal, after}
+use Rattle.meaning.specs.Steps.{refusal}
 use Rattle.meaning.specs.Frames.{readLine}
 use Rattle.meaning.specs.Journals.{oneIf}
+use Rattle.meaning.specs.Lines.{leftBy}
 
 -- the digits of a write, a session and a purge by their kind's two characters, 0 for any others
 unfoldable pub dueBy : ℕ → ℕ → ℕ
@@ -44,13 +45,7 @@ toldOf t (Begin n) = 2
 toldOf t (Act s) = oneIf (refusal t (s .action))
 toldOf t (Refused k p) = 2
 
--- the table after it: as it was for a line that is no step
-abbrev pub leftBy : List ℕ → Line → List ℕ
-leftBy t (Begin n) = t
-leftBy t (Act s) = after t (s .action)
-leftBy t (Refused k p) = t
-
--- One line on a sound table, which stays sound
+-- One line on a sound table, which stays sound, and as it was for a line that is no step
 pub record Turned (t : List ℕ) (x : Line) (told : ℕ) (t′ : List ℕ) : Type 0 where
   pub tells : told ≡ toldOf t x
   pub leaves : t′ ≡ leftBy t x

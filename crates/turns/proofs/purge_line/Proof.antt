@@ -1,5 +1,6 @@
 -- `purge_line` meets its contract: no line, or the purge's step.
 use mathlib.Core.Path.{_∙_, ap}
+use native.Mathlib.Omega.{arith}
 use Rattle.heads.specs.Heads.{shortOf}
 use Rattle.heads.proofs.HeadLaws.{six-of}
 use Rattle.turns.proofs.TurnLaws.{purge-unsure, purge-turned}
@@ -35,7 +36,7 @@ returns c =
     let start = at-read .before .before .before in
     let s = start .args .s .now in
     purge-unsure (start .args .t .now) (start .pre .0) s (start .pre .1) (at-short .short-line .result)
-    (at-short .short-line .ensures ∙ ap shortOf (six-of s (start .pre .1 .is-long))) (c .if1 .taken)
+    (at-short .short-line .ensures ∙ ap shortOf (six-of s (start .pre .1 .is-long))) (omega (arith, c .if1 .taken))
 
 cast-purge : tie.Need-cast-purge
 cast-purge c = search needs

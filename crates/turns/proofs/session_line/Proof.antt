@@ -36,7 +36,7 @@ byte-of-requires c κs =
     let at-values = at-if1 .before .before in
     let start = at-values .before .before .before .before .before in
     session-joins (start .args .t .now) (start .pre .0) (start .args .s .now) (at-values .values .last .1 .0) (at-values .values .result) (start .pre .1)
-    (at-values .values .ensures .0) (at-values .values .ensures .1) (at-if1 .if1 .left) 20 1 (omega arith)
+    (at-values .values .ensures .0) (at-values .values .ensures .1) (at-if1 .if1 .left) _ _ (omega arith)
 
 returns-2 : tie.Need-returns-2
 returns-2 c =
@@ -44,7 +44,7 @@ returns-2 c =
     let at-values = at-byte-of .before .before .before .before in
     let start = at-values .before .before .before .before .before in
     session-above (start .args .t .now) (start .pre .0) (start .args .s .now) (at-values .values .last .1 .0) (at-values .values .result) (start .pre .1)
-    (at-values .values .ensures .0) (at-values .values .ensures .1) (at-byte-of .byte-of .ensures) (c .if2 .taken)
+    (at-values .values .ensures .0) (at-values .values .ensures .1) (at-byte-of .byte-of .ensures) (omega (arith, c .if2 .taken))
 
 slice-aggregate-byte-of-2 : tie.Need-slice-aggregate-byte-of-2
 slice-aggregate-byte-of-2 c = search needs
@@ -55,7 +55,7 @@ byte-of-requires-2 c κs =
     let at-values = at-if1 .before .before in
     let start = at-values .before .before .before .before .before in
     session-joins (start .args .t .now) (start .pre .0) (start .args .s .now) (at-values .values .last .1 .0) (at-values .values .result) (start .pre .1)
-    (at-values .values .ensures .0) (at-values .values .ensures .1) (at-if1 .if1 .left) 0 1 (omega arith)
+    (at-values .values .ensures .0) (at-values .values .ensures .1) (at-if1 .if1 .left) _ _ (omega arith)
 
 slice-aggregate-byte-of-3 : tie.Need-slice-aggregate-byte-of-3
 slice-aggregate-byte-of-3 c = search needs
@@ -66,7 +66,7 @@ byte-of-requires-3 c κs =
     let at-values = at-if1 .before .before in
     let start = at-values .before .before .before .before .before in
     session-joins (start .args .t .now) (start .pre .0) (start .args .s .now) (at-values .values .last .1 .0) (at-values .values .result) (start .pre .1)
-    (at-values .values .ensures .0) (at-values .values .ensures .1) (at-if1 .if1 .left) 2 1 (omega arith)
+    (at-values .values .ensures .0) (at-values .values .ensures .1) (at-if1 .if1 .left) _ _ (omega arith)
 
 slice-aggregate-word-of : tie.Need-slice-aggregate-word-of
 slice-aggregate-word-of c = search needs
@@ -78,7 +78,7 @@ word-of-requires c κs =
     let at-values = at-if1 .before .before in
     let start = at-values .before .before .before .before .before in
     session-joins (start .args .t .now) (start .pre .0) (start .args .s .now) (at-values .values .last .1 .0) (at-values .values .result) (start .pre .1)
-    (at-values .values .ensures .0) (at-values .values .ensures .1) (at-if1 .if1 .left) 4 4 (omega arith)
+    (at-values .values .ensures .0) (at-values .values .ensures .1) (at-if1 .if1 .left) _ _ (omega arith)
 
 slice-aggregate-word-of-2 : tie.Need-slice-aggregate-word-of-2
 slice-aggregate-word-of-2 c = search needs
@@ -90,7 +90,7 @@ word-of-requires-2 c κs =
     let at-values = at-if1 .before .before in
     let start = at-values .before .before .before .before .before in
     session-joins (start .args .t .now) (start .pre .0) (start .args .s .now) (at-values .values .last .1 .0) (at-values .values .result) (start .pre .1)
-    (at-values .values .ensures .0) (at-values .values .ensures .1) (at-if1 .if1 .left) 12 4 (omega arith)
+    (at-values .values .ensures .0) (at-values .values .ensures .1) (at-if1 .if1 .left) _ _ (omega arith)
 
 session-requires : tie.Need-session-requires
 session-requires c κs = search needs

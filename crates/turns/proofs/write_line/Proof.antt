@@ -27,7 +27,7 @@ byte-of-requires c κs =
     let at-values = at-if1 .before .before in
     let start = at-values .before .before .before .before in
     write-joins (start .args .t .now) (start .pre .0) (start .args .s .now) (at-values .values .last .1 .0) (at-values .values .result) (start .pre .1)
-    (at-values .values .ensures .0) (at-values .values .ensures .1) (at-if1 .if1 .left) 2 1 (omega arith)
+    (at-values .values .ensures .0) (at-values .values .ensures .1) (at-if1 .if1 .left) _ _ (omega arith)
 
 slice-aggregate-word-of : tie.Need-slice-aggregate-word-of
 slice-aggregate-word-of c = search needs
@@ -38,7 +38,7 @@ word-of-requires c κs =
     let at-values = at-if1 .before .before in
     let start = at-values .before .before .before .before in
     write-joins (start .args .t .now) (start .pre .0) (start .args .s .now) (at-values .values .last .1 .0) (at-values .values .result) (start .pre .1)
-    (at-values .values .ensures .0) (at-values .values .ensures .1) (at-if1 .if1 .left) 4 4 (omega arith)
+    (at-values .values .ensures .0) (at-values .values .ensures .1) (at-if1 .if1 .left) _ _ (omega arith)
 
 slice-aggregate-word-of-2 : tie.Need-slice-aggregate-word-of-2
 slice-aggregate-word-of-2 c = search needs
@@ -49,7 +49,7 @@ word-of-requires-2 c κs =
     let at-values = at-if1 .before .before in
     let start = at-values .before .before .before .before in
     write-joins (start .args .t .now) (start .pre .0) (start .args .s .now) (at-values .values .last .1 .0) (at-values .values .result) (start .pre .1)
-    (at-values .values .ensures .0) (at-values .values .ensures .1) (at-if1 .if1 .left) 12 4 (omega arith)
+    (at-values .values .ensures .0) (at-values .values .ensures .1) (at-if1 .if1 .left) _ _ (omega arith)
 
 slice-aggregate-byte-of-2 : tie.Need-slice-aggregate-byte-of-2
 slice-aggregate-byte-of-2 c = search needs
@@ -60,7 +60,7 @@ byte-of-requires-2 c κs =
     let at-values = at-if1 .before .before in
     let start = at-values .before .before .before .before in
     write-joins (start .args .t .now) (start .pre .0) (start .args .s .now) (at-values .values .last .1 .0) (at-values .values .result) (start .pre .1)
-    (at-values .values .ensures .0) (at-values .values .ensures .1) (at-if1 .if1 .left) 20 1 (omega arith)
+    (at-values .values .ensures .0) (at-values .values .ensures .1) (at-if1 .if1 .left) _ _ (omega arith)
 
 write-requires : tie.Need-write-requires
 write-requires c κs = search needs
