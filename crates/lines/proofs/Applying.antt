@@ -2,7 +2,7 @@
 use mathlib.Core.Path.{_≡_, refl, sym, ap, _∙_}
 use mathlib.Core.Bool.{true, false}
 use mathlib.Core.List.{List, [], _∷_}
-use Prim.Native.Nat.{ℕ, zero, suc, _+_, _-_, _≤_, _<_}
+use Prim.Native.Nat.{ℕ, suc, _+_, _-_, _≤_, _<_}
 use native.Mathlib.Omega.{arith}
 use lib.ListN.{length}
 use denote.Enum.Declared.{variants}
@@ -20,7 +20,7 @@ use Rattle.meaning.specs.declared.Reply.{Reply}
 use Rattle.meaning.specs.declared.Answer.{Answer}
 use Rattle.meaning.specs.declared.Progress.{Progress}
 use Rattle.meaning.specs.Table.{sound, Sound}
-use Rattle.meaning.specs.Steps.{refusal, reported, replied, reply, after}
+use Rattle.meaning.specs.Steps.{refusal, reply, after}
 use Rattle.meaning.specs.Frames.{readLine}
 use Rattle.meaning.specs.Journals.{Steps, broken, step∷, oneIf, inTurn, nextIn, stepsFrom, afterAll, refusedOf}
 use Rattle.meaning.specs.Lines.{replyTo, refusedAt, leftBy, lineReply, lineAfter, progress, unread, linesReply, linesAfter}
@@ -28,7 +28,8 @@ use Rattle.meaning.proofs.Action as A
 use Rattle.meaning.proofs.Action.Laws as A′
 use Rattle.meaning.proofs.StepLaws.{verdictOf}
 use Rattle.meaning.proofs.JournalLaws.{steps-act, steps-end}
-use Rattle.lines.specs.Applying.{refusedLine, refusedBy, Stepped, AppliedFrom, AppliedLines}
+use Rattle.turns.proofs.TurnLaws.{one-most, Taken}
+use Rattle.lines.specs.Applying.{refusedLine, Stepped, AppliedFrom, AppliedLines}
 
 -- an action's verdict is a byte
 verdict-in : (x : Action) → Fields (variants A.the-type) (spellss (A.the-type .parts) A′.the-laws) (A.the-type .to x) → verdictOf x ≤ 255
@@ -38,25 +39,6 @@ verdict-in (Purge p) f = omega arith
 
 pub verdict-fits : (x : Action) (vs : List Val) → Is A.the-row x vs → verdictOf x ≤ 255
 verdict-fits x vs p = verdict-in x (owed A.the-type A′.the-laws x vs p)
-
--- a refused step counts 1, and any other 0
-reported-none : (t : List ℕ) (x : Action) → refusedBy (reported t x) ≡ 0
-unfolding reported
-reported-none t (Write p c b v) = refl
-reported-none t (Session a b ca cb o) = refl
-reported-none t (Purge p) = refl
-
-pub refused-counts : (t : List ℕ) (x : Action) → refusedBy (reply t x) ≡ oneIf (refusal t x)
-unfolding reply
-refused-counts t x = go (refusal t x)
-  where
-    go : (k : ℕ) → refusedBy (replied k (reported t x)) ≡ oneIf k
-    go zero = reported-none t x
-    go (suc k) = refl
-
-pub one-most : (k : ℕ) → oneIf k ≤ 1
-one-most zero = omega arith
-one-most (suc k) = omega arith
 
 -- How far what is left comes, when so many steps are done, of which so many were refused
 unfoldable pub further : ℕ → ℕ → List ℕ → Steps → Progress
@@ -165,6 +147,15 @@ module _ {s : List ℕ} {from first : ℕ} {t₀ t : List ℕ} {at steps refused
         answer = rw l (sym (w .answer) ∙ further-step steps refused t y rest ∙ rw (d .counts, d .leaves));
         table = rw l (sym (w .table) ∙ after-step t y (rest .steps) ∙ rw (d .leaves));
       }
+
+  -- one line taken in a turn, and one left to the reader
+  pub reached-turn : {due told : ℕ} {t′ : List ℕ} → Taken s at due t told t′ → Reached s from first t₀ t′ (at + (due + 1)) (steps + 1) (refused + told)
+  reached-turn {due} {told} {t′} y =
+      reached-step (y .found (first + steps)) (omega arith) (omega (arith, y .room))
+      (record { counts = y .counts; leaves = y .leaves; isSound = y .isSound; one = rw (y .counts) (one-most (refusal t (y .action))) })
+
+  pub reached-kept : {t′ : List ℕ} → t′ ≡ t → Reached s from first t₀ t′ at steps refused
+  reached-kept e = rw e x
 
 -- a step's answer, which has no place
 abbrev pub steppedLine : Reply → Answer

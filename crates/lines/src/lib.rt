@@ -5,13 +5,17 @@ ghost use Prim.Native.Nat.{_+_, _≤_};
 ghost use lib.ListN.{length};
 ghost use Rattle.meaning.specs.Table.{Sound};
 ghost use Rattle.looks.specs.Applied.{Applied};
-ghost use Rattle.lines.specs.Applying.{refusedLine, refusedBy, Stepped, AppliedFrom, AppliedLine, AppliedLines};
+ghost use Rattle.lines.specs.Applying.{refusedLine, haltedAt, Stepped, AppliedFrom, AppliedLine, AppliedLines};
 use meaning::Action;
 use meaning::Answer;
 use meaning::Next;
 use meaning::Progress;
 use meaning::Reply;
 use meaning::Step;
+use turns::UNSURE;
+use turns::count;
+use turns::due_at;
+use turns::turn;
 
 // One action on any words, by its fields. `table::apply` does the same; `apply_from` alone calls what stands below that, so that it is compiled
 // into the loop.
@@ -62,18 +66,6 @@ pub fn apply_line(t: &mut [u32], line: &[u8]) -> Answer
     }
 }
 
-// 1 for a refused step
-fn count(r: Reply) -> usize
-    ensures { λ k. ⌜ k ≡ refusedBy r ⌝ }
-{
-    match r {
-        Reply::Written => 0,
-        Reply::Carried { a: _, b: _ } => 0,
-        Reply::Purged { removed: _ } => 0,
-        Reply::Refused { number: _ } => 1,
-    }
-}
-
 // One step on a sound table, which it leaves sound: whether it was refused.
 fn step(t: &mut [u32], x: Step) -> usize
     requires { ⌜ Sound (now t) ⌝ }
@@ -84,7 +76,21 @@ fn step(t: &mut [u32], x: Step) -> usize
     count(r)
 }
 
-// The steps from a place on, up to the end or the first refused line, on a sound table; `first` is the number of the line there.
+// How far the lines were read.
+fn halted(steps: usize, refused: usize, stop: usize, number: u32, place: usize) -> Progress
+    ensures { λ r. ⌜ r ≡ haltedAt steps refused stop number place ⌝ }
+{
+    Progress {
+        steps,
+        refused,
+        stop,
+        number,
+        place,
+    }
+}
+
+// The steps from a place on, up to the end or the first refused line, on a sound table; `first` is the number of the line there. A line that is told
+// at once to be a step is taken in one turn; the reader of lines answers for any other.
 pub fn apply_from(s: &[u8], from: usize, first: usize, t: &mut [u32]) -> Progress
     requires { ⌜ Sound (now t) × (first ≤ from + 1) × (from ≤ length (now s)) ⌝ }
     ensures { λ r. ⌜ AppliedFrom (now (s .entry)) from first (now (t .entry)) r (now (t .exit)) ⌝ }
@@ -93,15 +99,17 @@ pub fn apply_from(s: &[u8], from: usize, first: usize, t: &mut [u32]) -> Progres
     let mut refused = 0;
     let mut stop = from;
     loop {
+        let due = due_at(s, stop);
+        let told = turn(s, stop, due, t);
+        if told < UNSURE {
+            steps += 1;
+            refused += told;
+            stop += due + 1;
+            continue;
+        }
         match journal::next_in(s, stop, first + steps, false) {
             Next::Begin { n: _, next: _ } => {
-                return Progress {
-                    steps,
-                    refused,
-                    stop,
-                    number: 15,
-                    place: 0,
-                };
+                return halted(steps, refused, stop, 15, 0);
             }
             Next::Act { step: x, next } => {
                 steps += 1;
@@ -109,22 +117,10 @@ pub fn apply_from(s: &[u8], from: usize, first: usize, t: &mut [u32]) -> Progres
                 stop = next;
             }
             Next::Refused { number, place } => {
-                return Progress {
-                    steps,
-                    refused,
-                    stop,
-                    number,
-                    place,
-                };
+                return halted(steps, refused, stop, number, place);
             }
             Next::End => {
-                return Progress {
-                    steps,
-                    refused,
-                    stop,
-                    number: 0,
-                    place: 0,
-                };
+                return halted(steps, refused, stop, 0, 0);
             }
         }
     }
