@@ -137,6 +137,13 @@ module _ (l : List ℕ) where
       go true e = absurd (h (accepted-good e))
       go false e = refl
 
+  -- the same as its refusal
+  pub accepted-clear : accepted l ≡ true → lineRefusal l ≡ 0
+  accepted-clear h = clear l (accepted-good h)
+
+  pub accepted-refused : accepted l ≡ false → lineRefusal l ≡ 0 → ⊥
+  accepted-refused h z = true≢false (sym (accepted-is (good l z)) ∙ h)
+
   -- a test that tells it
   pub accepted-by : (b : Bool) → (b ≡ true → Good l) → (Good l → b ≡ true) → b ≡ accepted l
   accepted-by true p q = sym (accepted-is (p refl))
