@@ -4,7 +4,6 @@ ghost use Prim.Native.Nat.{_+_, _<_};
 ghost use lib.ListN.{length, getD};
 ghost use Rattle.meaning.specs.Frames.{readLine, lineFault, lineValues};
 use heads::quick;
-use heads::why;
 use meaning::Fault;
 use meaning::Line;
 use meaning::Step;
@@ -23,7 +22,7 @@ pub fn check(s: &[u8]) -> Fault
         };
     }
     let n = s.len();
-    why::refusal(&s[0..n])
+    faults::refusal(&s[0..n])
 }
 
 // The kind of a line shorter than a write's.
@@ -72,7 +71,7 @@ pub fn read_line(s: &[u8], line: usize) -> Line
     ensures { λ r. ⌜ r ≡ readLine line (now (s .entry)) ⌝ }
 {
     if !quick::sure(s) {
-        let fault = why::refusal(s);
+        let fault = faults::refusal(s);
         return Line::Refused {
             number: fault.number,
             place: fault.place,

@@ -2,7 +2,6 @@
 ghost use mathlib.Core.Path.{_≡_};
 ghost use mathlib.Core.List.{[]};
 ghost use Rattle.meaning.specs.Frames.{wordsFault, ReadWords};
-use heads::why;
 use meaning::Fault;
 
 mod six;
@@ -11,7 +10,7 @@ mod six;
 fn few(s: &[u8]) -> Fault
     ensures { λ r. ⌜ r ≡ wordsFault (now (s .entry)) [] ⌝ }
 {
-    let fault = why::refusal(s);
+    let fault = faults::refusal(s);
     if fault.number != 0 {
         return fault;
     }
@@ -36,5 +35,5 @@ pub fn read_words(s: &[u8], words: &mut [u32]) -> Fault
             place: 0,
         };
     }
-    why::refusal(&s[0..long])
+    faults::refusal(&s[0..long])
 }
