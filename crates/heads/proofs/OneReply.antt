@@ -11,14 +11,9 @@ use Rattle.heads.proofs.quick.is_write.Kinds as is-write-kinds
 use Rattle.heads.proofs.quick.is_write.Reads as is-write
 use Rattle.heads.proofs.quick.is_session.Kinds as is-session-kinds
 use Rattle.heads.proofs.quick.is_session.Reads as is-session
-use Rattle.heads.proofs.why.refusal.Kinds as refusal-kinds
-use Rattle.heads.proofs.why.refusal.Reads as refusal
 
 pub one-sure : OneResult 1 sure-kinds.ps sure-kinds.r sure.Post
 one-sure κs a x y s s' p q = p ∙ sym q
-
-pub one-refusal : OneResult 1 refusal-kinds.ps refusal-kinds.r refusal.Post
-one-refusal κs a x y s s' p q = p ∙ sym q
 
 pub one-short-held : OneResult 1 short-held-kinds.ps short-held-kinds.r short-held.Post
 one-short-held κs a x y s s' p q = p ∙ sym q

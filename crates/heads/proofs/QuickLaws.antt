@@ -2,7 +2,7 @@
 use mathlib.Core.Path.{_≡_, refl, sym, _∙_, ap}
 use mathlib.Core.Bool.{Bool, true, false, not, _&&_, _||_, cond, true≢false}
 use mathlib.Core.List.{List, [], _∷_}
-use Prim.Native.Nat.{ℕ, _+_, _-_, _*_, _%_, _≤_, _<_}
+use Prim.Native.Nat.{ℕ, _+_, _-_, _*_, _/_, _%_, _≤_, _<_}
 use native.Mathlib.Omega.{arith}
 use lib.Bits.{bitOr, or-lt}
 use lib.ListN.{length, getD, take, drop, length-drop}
@@ -23,6 +23,7 @@ use Rattle.meaning.specs.Frames.{
   digitsIn,
   digitsOf,
   lineKind,
+  lineRefusal,
   startWrong,
 }
 use Rattle.meaning.proofs.RowLaws.{and-left, and-right}
@@ -35,6 +36,7 @@ use Rattle.meaning.proofs.FrameLaws.{
   total-below,
   kind-cases,
   Good,
+  good,
   count-right,
   count-wrong,
 }
@@ -440,3 +442,23 @@ outcome-out h l e p = go (leb 48 l) (leb l 51) refl refl
 -- the characters after the kind's two
 pub rest-part : (l : List ℕ) → length l ≡ 26 → take 24 (drop 2 l) ≡ drop 2 l
 rest-part l h = take-all 24 (drop 2 l) (omega (arith, length-drop 2 l))
+
+-- no other long line is accepted
+pub other-refused : (l : List ℕ) → 24 ≤ length l → (length l ≡ 24 → ⊥) → (length l ≡ 26 → ⊥) → lineRefusal l ≡ 0 → ⊥
+other-refused l h p q z = no-length l (good l z) (omega arith) p q
+
+-- a line shorter than a write's, by what it holds
+module _ (l : List ℕ) (x : ℕ) (e : x ≡ shortOf l) (few : length l < 24) where
+  pub held-refused : 1024 ≤ x → lineRefusal l ≡ 0 → ⊥
+  held-refused h z = short-refused l x e h few (good l z)
+
+  module _ (h : x < 1024) where
+    pub held-six : length l ≡ 6
+    held-six = short-six l (short-tells l x e h .0) few
+
+    pub held-kind : x / 256 ≡ lineKind (bytesOf l)
+    held-kind = let tells = short-tells l x e h in omega (arith, tells .1, field-small l (tells .0) held-six)
+
+    -- its kind is none of another length
+    pub held-not : (k : ℕ) → (digitsOf k ≡ 6 → ⊥) → lineKind (bytesOf l) ≡ k → ⊥
+    held-not k n z = n (sym (ap digitsOf z) ∙ sym (short-tells l x e h .0 .long) ∙ held-six)

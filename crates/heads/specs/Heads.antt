@@ -1,5 +1,4 @@
--- What the functions over a line answer: whether it is accepted, the digits that are due, what a short line holds, and the actions by the places
--- of their fields.
+-- What the functions over a line answer: whether it is accepted, what a short line holds, and the actions by the places of their fields.
 use mathlib.Core.Path.{_≡_}
 use mathlib.Core.Bool.{Bool, true, _&&_, _||_, cond}
 use mathlib.Core.List.{List}
@@ -15,10 +14,6 @@ use Rattle.digits.specs.Digits.{fieldAt}
 -- whether a line is accepted
 unfoldable pub accepted : List ℕ → Bool
 accepted l = eqb (lineRefusal l) 0
-
--- the digits of a kind's lines, 0 for a kind that is unknown
-unfoldable pub dueOf : ℕ → ℕ
-dueOf kind = cond (known kind) (digitsOf kind) 0
 
 -- what an accepted line of six characters holds, 256 times its kind and its field; 1024 for any other line
 unfoldable pub shortOf : List ℕ → ℕ

@@ -1,4 +1,2 @@
-// Whether a line is accepted, and why not. Inner functions of the reader. Document 01, "Frames and journals".
-mod kinds;
+// Whether a line is accepted. Inner functions of the reader. Document 01, "Frames and journals".
 pub mod quick;
-pub mod why;

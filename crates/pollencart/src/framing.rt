@@ -1,4 +1,4 @@
-// Frames for C: check a line, read all of it at once, its kind and fields one by one, write each kind. Thin over the crates `reading` and `writing`.
+// Frames for C: check a line, read all of it at once, its kind and fields one by one, write each kind. Thin over `reading`, `words` and `writing`.
 ghost use mathlib.Core.Path.{_≡_};
 ghost use mathlib.Core.List.{[], _∷_};
 ghost use Prim.Native.Nat.{_+_};
@@ -23,7 +23,7 @@ pub extern "C" fn pollencart_check_line(line: &[u8], place: &mut usize) -> u32
 pub extern "C" fn pollencart_read_line(line: &[u8], values: &mut [u32], place: &mut usize) -> u32
     ensures { λ r. ⌜ LineRead (now (line .entry)) (now (values .entry)) (r ∷ now (place .exit) ∷ []) (now (values .exit)) ⌝ }
 {
-    let fault = reading::read_words(line, values);
+    let fault = words::read_words(line, values);
     locate(fault, place)
 }
 

@@ -1,17 +1,14 @@
 // Frames read: what a single line says, whatever its bytes. Document 01, "Frames and journals".
 ghost use mathlib.Core.Path.{_≡_};
-ghost use mathlib.Core.List.{[]};
 ghost use Prim.Native.Nat.{_+_, _<_};
 ghost use lib.ListN.{length, getD};
-ghost use Rattle.meaning.specs.Frames.{readLine, lineFault, lineValues, wordsFault, ReadWords};
+ghost use Rattle.meaning.specs.Frames.{readLine, lineFault, lineValues};
 use heads::quick;
-use heads::why;
 use meaning::Fault;
 use meaning::Line;
 use meaning::Step;
 
 mod fields;
-mod words;
 
 // The refusal of a single line (without its LF) and its place in it, for any bytes at all: the first that applies, of 12, 18, 11, 19, 20, 13 and
 // 15; two zeros for none. The other way is lent a part of the slice, so that the slice itself stays in registers.
@@ -25,7 +22,7 @@ pub fn check(s: &[u8]) -> Fault
         };
     }
     let n = s.len();
-    why::refusal(&s[0..n])
+    faults::refusal(&s[0..n])
 }
 
 // The kind of a line shorter than a write's.
@@ -74,7 +71,7 @@ pub fn read_line(s: &[u8], line: usize) -> Line
     ensures { λ r. ⌜ r ≡ readLine line (now (s .entry)) ⌝ }
 {
     if !quick::sure(s) {
-        let fault = why::refusal(s);
+        let fault = faults::refusal(s);
         return Line::Refused {
             number: fault.number,
             place: fault.place,
@@ -90,36 +87,4 @@ pub fn read_line(s: &[u8], line: usize) -> Line
     Line::Act {
         step: Step { line, action },
     }
-}
-
-// The refusal of a line for which fewer than six words are lent: the line's own, and then 17.
-fn few(s: &[u8]) -> Fault
-    ensures { λ r. ⌜ r ≡ wordsFault (now (s .entry)) [] ⌝ }
-{
-    let fault = why::refusal(s);
-    if fault.number != 0 {
-        return fault;
-    }
-    Fault {
-        number: 17,
-        place: 0,
-    }
-}
-
-// A line read in one call: its refusal and place as `check` gives them, and after them 17 where fewer than six words are lent. An accepted line's
-// kind and its fields go into the first six words, 0 where the kind has no such field; a refused line changes none.
-pub fn read_words(s: &[u8], words: &mut [u32]) -> Fault
-    ensures { λ r. ⌜ ReadWords (now (s .entry)) (now (words .entry)) r (now (words .exit)) ⌝ }
-{
-    let long = s.len();
-    if words.len() < 6 {
-        return few(&s[0..long]);
-    }
-    if words::put_sure(s, &mut words[0..6]) {
-        return Fault {
-            number: 0,
-            place: 0,
-        };
-    }
-    why::refusal(&s[0..long])
 }

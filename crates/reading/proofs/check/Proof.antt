@@ -5,8 +5,7 @@ use native.Mathlib.Omega.{arith}
 use lib.ListN.{length}
 use Rattle.meaning.specs.Frames.{lineFault}
 use Rattle.meaning.proofs.FrameLaws.{clear-place, fault-is}
-use Rattle.heads.proofs.HeadLaws.{whole-part}
-use Rattle.reading.proofs.LineLaws.{accepted-clear}
+use Rattle.heads.proofs.HeadLaws.{whole-part, accepted-clear}
 use borrow.Author.Needs.{needs}
 use Rattle.reading.proofs.check.Statement.{statement}
 use Rattle.reading.proofs.check.Tie as tie

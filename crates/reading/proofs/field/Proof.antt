@@ -6,7 +6,8 @@ use native.Mathlib.Omega.{arith}
 use lib.ListN.{getD}
 use Rattle.meaning.specs.Frames.{lineValues, readLine}
 use Rattle.heads.proofs.HeadLaws.{whole-part}
-use Rattle.reading.proofs.LineLaws.{refused-field, other-refused}
+use Rattle.heads.proofs.QuickLaws.{other-refused}
+use Rattle.reading.proofs.LineLaws.{refused-field}
 use borrow.Author.Needs.{needs}
 use Rattle.reading.proofs.field.Statement.{statement}
 use Rattle.reading.proofs.field.Tie as tie

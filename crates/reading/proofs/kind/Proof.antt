@@ -2,8 +2,9 @@
 use mathlib.Core.Path.{sym, _∙_, ap}
 use native.Mathlib.Omega.{arith}
 use Rattle.heads.specs.Heads.{accepted}
-use Rattle.heads.proofs.HeadLaws.{whole-part}
-use Rattle.reading.proofs.LineLaws.{refused-kind, accepted-clear, accepted-refused, kind-write, kind-session, other-refused}
+use Rattle.heads.proofs.HeadLaws.{whole-part, accepted-clear, accepted-refused}
+use Rattle.heads.proofs.QuickLaws.{other-refused}
+use Rattle.reading.proofs.LineLaws.{refused-kind, kind-write, kind-session}
 use borrow.Author.Needs.{needs}
 use Rattle.reading.proofs.kind.Statement.{statement}
 use Rattle.reading.proofs.kind.Tie as tie

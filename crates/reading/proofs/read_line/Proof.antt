@@ -4,7 +4,8 @@ use native.Mathlib.Omega.{arith}
 use borrow.Author.Tests.{not-true, not-false}
 use Rattle.meaning.specs.declared.Line.the-variants.{Act}
 use Rattle.heads.proofs.FieldLaws.{kind-field}
-use Rattle.reading.proofs.LineLaws.{line-refused, second-in, line-whole, line-begin, line-act, accepted-clear, accepted-refused, first-in}
+use Rattle.heads.proofs.HeadLaws.{accepted-clear, accepted-refused}
+use Rattle.reading.proofs.LineLaws.{line-refused, second-in, line-whole, line-begin, line-act, first-in}
 use borrow.Author.Needs.{needs}
 use Rattle.reading.proofs.read_line.Statement.{statement}
 use Rattle.reading.proofs.read_line.Tie as tie

@@ -1,5 +1,6 @@
 -- `short_kind` meets its contract: by what the line holds.
-use Rattle.reading.proofs.LineLaws.{refused-kind, held-refused, kind-held}
+use Rattle.heads.proofs.QuickLaws.{held-refused}
+use Rattle.reading.proofs.LineLaws.{refused-kind, kind-held}
 use borrow.Author.Needs.{needs}
 use Rattle.reading.proofs.short_kind.Statement.{statement}
 use Rattle.reading.proofs.short_kind.Tie as tie

@@ -2,7 +2,8 @@
 use mathlib.Core.Path.{sym, _∙_}
 use borrow.Author.Tests.{not-true, not-false}
 use Rattle.meaning.proofs.FrameLaws.{good}
-use Rattle.reading.proofs.LineLaws.{refused-field, accepted-clear, accepted-refused, field-session}
+use Rattle.heads.proofs.HeadLaws.{accepted-clear, accepted-refused}
+use Rattle.reading.proofs.LineLaws.{refused-field, field-session}
 use borrow.Author.Needs.{needs}
 use Rattle.reading.proofs.fields.session_field.Statement.{statement}
 use Rattle.reading.proofs.fields.session_field.Tie as tie

@@ -1,5 +1,6 @@
 -- `short_field` meets its contract: by what the line holds.
-use Rattle.reading.proofs.LineLaws.{refused-field, held-refused, field-held, field-past}
+use Rattle.heads.proofs.QuickLaws.{held-refused}
+use Rattle.reading.proofs.LineLaws.{refused-field, field-held, field-past}
 use borrow.Author.Needs.{needs}
 use Rattle.reading.proofs.fields.short_field.Statement.{statement}
 use Rattle.reading.proofs.fields.short_field.Tie as tie

@@ -2,7 +2,8 @@
 use mathlib.Core.Path.{sym, _∙_}
 use borrow.Author.Tests.{not-true, not-false}
 use Rattle.meaning.proofs.FrameLaws.{good}
-use Rattle.reading.proofs.LineLaws.{refused-field, accepted-clear, accepted-refused, field-write}
+use Rattle.heads.proofs.HeadLaws.{accepted-clear, accepted-refused}
+use Rattle.reading.proofs.LineLaws.{refused-field, field-write}
 use borrow.Author.Needs.{needs}
 use Rattle.reading.proofs.fields.write_field.Statement.{statement}
 use Rattle.reading.proofs.fields.write_field.Tie as tie
