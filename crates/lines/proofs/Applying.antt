@@ -12,24 +12,18 @@ use mir.Val.{Val}
 use Rattle.meaning.specs.declared.Action.{Action}
 use Rattle.meaning.specs.declared.Action.the-variants.{Write, Session, Purge}
 use Rattle.meaning.specs.declared.Step.{Step}
-use Rattle.meaning.specs.declared.Line.{Line}
-use Rattle.meaning.specs.declared.Line.the-variants.{Begin, Act, Refused}
-use Rattle.meaning.specs.declared.Next.{Next}
-use Rattle.meaning.specs.declared.Next.the-variants.{Begin as BeginAt, Act as ActAt, Refused as RefusedAt, End}
-use Rattle.meaning.specs.declared.Reply.{Reply}
-use Rattle.meaning.specs.declared.Answer.{Answer}
+use Rattle.meaning.specs.declared.Next.the-variants.{Act as ActAt, End}
 use Rattle.meaning.specs.declared.Progress.{Progress}
 use Rattle.meaning.specs.Table.{sound, Sound}
-use Rattle.meaning.specs.Steps.{refusal, reply, after}
-use Rattle.meaning.specs.Frames.{readLine}
-use Rattle.meaning.specs.Journals.{Steps, broken, step∷, oneIf, inTurn, nextIn, stepsFrom, afterAll, refusedOf}
-use Rattle.meaning.specs.Lines.{replyTo, refusedAt, leftBy, lineReply, lineAfter, progress, unread, linesReply, linesAfter}
+use Rattle.meaning.specs.Steps.{refusal, after}
+use Rattle.meaning.specs.Journals.{Steps, broken, step∷, oneIf, nextIn, stepsFrom, afterAll, refusedOf}
+use Rattle.meaning.specs.Lines.{progress, unread, linesReply, linesAfter}
 use Rattle.meaning.proofs.Action as A
 use Rattle.meaning.proofs.Action.Laws as A′
 use Rattle.meaning.proofs.StepLaws.{verdictOf}
 use Rattle.meaning.proofs.JournalLaws.{steps-act, steps-end}
 use Rattle.turns.proofs.TurnLaws.{one-most, Taken}
-use Rattle.lines.specs.Applying.{refusedLine, Stepped, AppliedFrom, AppliedLines}
+use Rattle.lines.specs.Applying.{Stepped, AppliedFrom, AppliedLines}
 
 -- an action's verdict is a byte
 verdict-in : (x : Action) → Fields (variants A.the-type) (spellss (A.the-type .parts) A′.the-laws) (A.the-type .to x) → verdictOf x ≤ 255
@@ -156,33 +150,6 @@ module _ {s : List ℕ} {from first : ℕ} {t₀ t : List ℕ} {at steps refused
 
   pub reached-kept : {t′ : List ℕ} → t′ ≡ t → Reached s from first t₀ t′ at steps refused
   reached-kept e = rw e x
-
--- a step's answer, which has no place
-abbrev pub steppedLine : Reply → Answer
-steppedLine r = record { reply = r; place = 0 }
-
--- one line, by what it says in its turn, which is never the first
-abbrev pub replyIn : List ℕ → Next → Answer
-replyIn t (BeginAt n next) = refusedLine 15 0
-replyIn t (ActAt s next) = steppedLine (reply t (s .action))
-replyIn t (RefusedAt k p) = refusedLine k p
-replyIn t End = refusedLine 15 0
-
-abbrev pub leftIn : List ℕ → Next → List ℕ
-leftIn t (BeginAt n next) = t
-leftIn t (ActAt s next) = after t (s .action)
-leftIn t (RefusedAt k p) = t
-leftIn t End = t
-
-turn-is : (t : List ℕ) (x : Line)
-    → (replyIn t (inTurn false 0 x) ≡ record { reply = replyTo t x; place = refusedAt x }) × (leftIn t (inTurn false 0 x) ≡ leftBy t x)
-turn-is t (Begin n) = (refl, refl)
-turn-is t (Act s) = (refl, refl)
-turn-is t (Refused k p) = (refl, refl)
-
-pub line-is : (t l : List ℕ) {x : Next} → inTurn false 0 (readLine 1 l) ≡ x → (replyIn t x ≡ lineReply t l) × (leftIn t x ≡ lineAfter t l)
-unfolding lineReply lineAfter
-line-is t l e = (ap (replyIn t) (sym e) ∙ turn-is t (readLine 1 l) .0, ap (leftIn t) (sym e) ∙ turn-is t (readLine 1 l) .1)
 
 -- many lines, on a table that is not sound and on one that is
 pub lines-unsound : (t s : List ℕ) → sound t ≡ false → AppliedLines t s unread t

@@ -4,9 +4,7 @@ ghost use mathlib.Core.Path.{_≡_};
 ghost use Prim.Native.Nat.{_+_, _≤_};
 ghost use lib.ListN.{length};
 ghost use Rattle.meaning.specs.Table.{Sound};
-ghost use Rattle.looks.specs.Applied.{Applied};
 ghost use Rattle.lines.specs.Applying.{refusedLine, haltedAt, Stepped, AppliedFrom, AppliedLine, AppliedLines};
-use meaning::Action;
 use meaning::Answer;
 use meaning::Next;
 use meaning::Progress;
@@ -16,29 +14,6 @@ use turns::UNSURE;
 use turns::count;
 use turns::due_at;
 use turns::turn;
-
-// One action on any words, by its fields. `table::apply` does the same; `apply_from` alone calls what stands below that, so that it is compiled
-// into the loop.
-fn act(t: &mut [u32], action: Action) -> Reply
-    ensures { λ r. ⌜ Applied (now (t .entry)) action r (now (t .exit)) ⌝ }
-{
-    match action {
-        Action::Write {
-            node,
-            timestamp,
-            block,
-            verdict,
-        } => table::act::write(t, node, timestamp, block, verdict),
-        Action::Session {
-            a,
-            b,
-            ca,
-            cb,
-            outcome,
-        } => table::act::session(t, a, b, ca, cb, outcome),
-        Action::Purge { node } => table::act::purge(t, node),
-    }
-}
 
 // A line's refusal, at its place
 fn refused(number: u32, place: usize) -> Answer
@@ -54,16 +29,20 @@ fn refused(number: u32, place: usize) -> Answer
 pub fn apply_line(t: &mut [u32], line: &[u8]) -> Answer
     ensures { λ r. ⌜ AppliedLine (now (t .entry)) (now (line .entry)) r (now (t .exit)) ⌝ }
 {
-    match journal::said(line, 1, false, 0) {
-        Next::Begin { n: _, next: _ } => refused(15, 0),
-        Next::Act { step, next: _ } => {
-            let action = step.action;
-            let reply = act(t, action);
-            Answer { reply, place: 0 }
-        }
-        Next::Refused { number, place } => refused(number, place),
-        Next::End => refused(15, 0),
+    let mut v = [0u32; 6];
+    let fault = words::read_words(line, &mut v[..]);
+    if fault.number != 0 {
+        return refused(fault.number, fault.place);
     }
+    if v[0] == 0 {
+        return refused(15, 0);
+    }
+    let reply = match v[0] {
+        1 => table::act::write(t, v[1] as u8, v[2], v[3], v[4] as u8),
+        2 => table::act::session(t, v[1] as u8, v[2] as u8, v[3], v[4], v[5] as u8),
+        _ => table::act::purge(t, v[1] as u8),
+    };
+    Answer { reply, place: 0 }
 }
 
 // One step on a sound table, which it leaves sound: whether it was refused.

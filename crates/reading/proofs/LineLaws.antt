@@ -53,6 +53,10 @@ module _ (l : List ℕ) where
   refused-at line zero e h = absurd (h refl)
   refused-at line (suc k) e h = read-refused line k l e
 
+  pub fault-number : (f : Fault) → f ≡ lineFault l → f .number ≡ lineRefusal l
+  unfolding lineFault
+  fault-number f e = ap (λ (x : Fault). x .number) e
+
   pub line-refused : (line : ℕ) (f : Fault) → f ≡ lineFault l → (lineRefusal l ≡ 0 → ⊥) → Refused (f .number) (f .place) ≡ readLine line l
   unfolding lineFault
   line-refused line f e h = ap (λ (x : Fault). Refused (x .number) (x .place)) e ∙ refused-at line (lineRefusal l) refl h

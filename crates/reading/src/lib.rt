@@ -66,12 +66,14 @@ pub fn field(s: &[u8], index: u32) -> u32
 }
 
 // What a single line (without its LF) says, for any bytes at all: the start, the step with the line number that it is told,
-// or the first refusal that applies, of 12, 18, 11, 19, 20, 13 and 15, with its place.
+// or the first refusal that applies, of 12, 18, 11, 19, 20, 13 and 15, with its place. It is read where the quick
+// way did not tell a line at once, so it asks for the refusal first; `quick::sure` has one caller, `check`, and is compiled into it.
 pub fn read_line(s: &[u8], line: usize) -> Line
     ensures { λ r. ⌜ r ≡ readLine line (now (s .entry)) ⌝ }
 {
-    if !quick::sure(s) {
-        let fault = faults::refusal(s);
+    let n = s.len();
+    let fault = faults::refusal(&s[0..n]);
+    if fault.number != 0 {
         return Line::Refused {
             number: fault.number,
             place: fault.place,
