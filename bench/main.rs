@@ -14,7 +14,9 @@ use model::{Action, Table};
 use std::hint::black_box;
 use std::time::Instant;
 
-type Check = unsafe extern "C" fn(*const u8, usize) -> u32;
+type CheckLine = unsafe extern "C" fn(*const u8, usize, *mut usize) -> u32;
+type ReadLine = unsafe extern "C" fn(*const u8, usize, *mut u32, usize, *mut usize) -> u32;
+type Kind = unsafe extern "C" fn(*const u8, usize) -> u32;
 type Field = unsafe extern "C" fn(*const u8, usize, u32) -> u32;
 type FrameWrite = unsafe extern "C" fn(*mut u8, usize, u8, u32, u32, u8, *mut u32) -> u32;
 type FrameSession = unsafe extern "C" fn(*mut u8, usize, u8, u8, u32, u32, u8, *mut u32) -> u32;
@@ -23,15 +25,16 @@ type Write = unsafe extern "C" fn(*mut u32, usize, u8, u32, u32, u8) -> u32;
 type Session = unsafe extern "C" fn(*mut u32, usize, u8, u8, u32, u32, u8, *mut u32, *mut u32) -> u32;
 type Purge = unsafe extern "C" fn(*mut u32, usize, u8, *mut u32) -> u32;
 type Count = unsafe extern "C" fn(*const u32, usize, *mut u32, *mut u32) -> u32;
-type ApplyLine = unsafe extern "C" fn(*mut u32, usize, *const u8, usize, *mut u32, *mut u32) -> u32;
-type ApplyLines = unsafe extern "C" fn(*mut u32, usize, *const u8, usize, *mut usize, *mut usize, *mut usize) -> u32;
+type ApplyLine = unsafe extern "C" fn(*mut u32, usize, *const u8, usize, *mut u32, *mut u32, *mut usize) -> u32;
+type ApplyLines = unsafe extern "C" fn(*mut u32, usize, *const u8, usize, *mut usize, *mut usize, *mut usize, *mut usize) -> u32;
 type Replay = unsafe extern "C" fn(*const u8, usize, *mut u32, usize, *mut u8, usize) -> u32;
 
 /// The calls of one C library.
 #[derive(Clone, Copy)]
 struct Api {
-    check: Check,
-    kind: Check,
+    check_line: CheckLine,
+    read_line: ReadLine,
+    kind: Kind,
     field: Field,
     frame_start: FrameShort,
     frame_write: FrameWrite,
@@ -47,9 +50,10 @@ struct Api {
 }
 
 macro_rules! api {
-    ($check:ident $kind:ident $field:ident $frame_start:ident $frame_write:ident $frame_session:ident $frame_purge:ident $write:ident $session:ident $purge:ident $count:ident $apply_line:ident $apply_lines:ident $replay:ident) => {{
+    ($check_line:ident $read_line:ident $kind:ident $field:ident $frame_start:ident $frame_write:ident $frame_session:ident $frame_purge:ident $write:ident $session:ident $purge:ident $count:ident $apply_line:ident $apply_lines:ident $replay:ident) => {{
         extern "C" {
-            fn $check(l: *const u8, n: usize) -> u32;
+            fn $check_line(l: *const u8, n: usize, p: *mut usize) -> u32;
+            fn $read_line(l: *const u8, n: usize, v: *mut u32, m: usize, p: *mut usize) -> u32;
             fn $kind(l: *const u8, n: usize) -> u32;
             fn $field(l: *const u8, n: usize, i: u32) -> u32;
             fn $frame_start(o: *mut u8, n: usize, p: u8, r: *mut u32) -> u32;
@@ -60,12 +64,13 @@ macro_rules! api {
             fn $session(w: *mut u32, n: usize, a: u8, b: u8, x: u32, y: u32, c: u8, r: *mut u32, s: *mut u32) -> u32;
             fn $purge(w: *mut u32, n: usize, p: u8, r: *mut u32) -> u32;
             fn $count(w: *const u32, n: usize, s: *mut u32, t: *mut u32) -> u32;
-            fn $apply_line(w: *mut u32, n: usize, l: *const u8, m: usize, x: *mut u32, y: *mut u32) -> u32;
-            fn $apply_lines(w: *mut u32, n: usize, l: *const u8, m: usize, x: *mut usize, y: *mut usize, z: *mut usize) -> u32;
+            fn $apply_line(w: *mut u32, n: usize, l: *const u8, m: usize, x: *mut u32, y: *mut u32, p: *mut usize) -> u32;
+            fn $apply_lines(w: *mut u32, n: usize, l: *const u8, m: usize, x: *mut usize, y: *mut usize, z: *mut usize, p: *mut usize) -> u32;
             fn $replay(j: *const u8, n: usize, w: *mut u32, m: usize, o: *mut u8, r: usize) -> u32;
         }
         Api {
-            check: $check,
+            check_line: $check_line,
+            read_line: $read_line,
             kind: $kind,
             field: $field,
             frame_start: $frame_start,
@@ -85,9 +90,9 @@ macro_rules! api {
 
 fn apis() -> [Api; 3] {
     [
-        api!(pollencart_check pollencart_kind pollencart_field pollencart_frame_start pollencart_frame_write pollencart_frame_session pollencart_frame_purge pollencart_write pollencart_session pollencart_purge pollencart_count pollencart_line pollencart_lines pollencart_replay),
-        api!(plain_check plain_kind plain_field plain_frame_start plain_frame_write plain_frame_session plain_frame_purge plain_write plain_session plain_purge plain_count plain_apply_line plain_apply_lines plain_replay),
-        api!(clang_check clang_kind clang_field clang_frame_start clang_frame_write clang_frame_session clang_frame_purge clang_write clang_session clang_purge clang_count clang_apply_line clang_apply_lines clang_replay),
+        api!(pollencart_check_line pollencart_read_line pollencart_kind pollencart_field pollencart_frame_start pollencart_frame_write pollencart_frame_session pollencart_frame_purge pollencart_write pollencart_session pollencart_purge pollencart_count pollencart_apply_line pollencart_apply_lines pollencart_replay),
+        api!(plain_check_line plain_read_line plain_kind plain_field plain_frame_start plain_frame_write plain_frame_session plain_frame_purge plain_write plain_session plain_purge plain_count plain_apply_line plain_apply_lines plain_replay),
+        api!(clang_check_line clang_read_line clang_kind clang_field clang_frame_start clang_frame_write clang_frame_session clang_frame_purge clang_write clang_session clang_purge clang_count clang_apply_line clang_apply_lines clang_replay),
     ]
 }
 
@@ -140,7 +145,11 @@ fn lines(rows: &mut Vec<Row>) {
         let given = line.clone();
         let check = |api: Api| {
             let line = line.clone();
-            move |_: usize| seen(unsafe { (api.check)(black_box(line.as_ptr()), line.len()) })
+            move |_: usize| {
+                let mut place = 0;
+                seen(unsafe { (api.check_line)(black_box(line.as_ptr()), line.len(), &mut place) });
+                black_box(place);
+            }
         };
         let rust = given.clone();
         rows.push(row(&format!("check a line: {name}"), 4000, check, move |_| seen(model::read(black_box(&rust)))));
@@ -148,9 +157,9 @@ fn lines(rows: &mut Vec<Row>) {
         let whole = |api: Api| {
             let line = line.clone();
             move |_: usize| {
-                let (at, size) = (black_box(line.as_ptr()), line.len());
+                let (at, size, mut place) = (black_box(line.as_ptr()), line.len(), 0);
                 unsafe {
-                    black_box((api.check)(at, size));
+                    black_box((api.check_line)(at, size, &mut place));
                     black_box((api.kind)(at, size));
                     for i in 0..many {
                         black_box((api.field)(at, size, i));
@@ -160,6 +169,16 @@ fn lines(rows: &mut Vec<Row>) {
         };
         let rust = given.clone();
         rows.push(row(&format!("check, kind and all fields: {name}"), 1000, whole, move |_| seen(model::read(black_box(&rust)).map(model::fields))));
+        let once = |api: Api| {
+            let line = line.clone();
+            move |_: usize| {
+                let (mut values, mut place) = ([0; 6], 0);
+                seen(unsafe { (api.read_line)(black_box(line.as_ptr()), line.len(), values.as_mut_ptr(), 6, &mut place) });
+                black_box((values, place));
+            }
+        };
+        let rust = given.clone();
+        rows.push(row(&format!("kind and all fields in one call: {name}"), 4000, once, move |_| seen(model::read(black_box(&rust)).map(model::fields))));
     }
 }
 
@@ -288,9 +307,9 @@ fn line_applied(rows: &mut Vec<Row>, name: &str, table: &Table, action: Action) 
             copies.iter_mut().for_each(|copy| copy.copy_from_slice(&words));
             let began = Instant::now();
             for copy in &mut copies {
-                let (mut x, mut y) = (0, 0);
-                assert_eq!(unsafe { (api.apply_line)(copy.as_mut_ptr(), WORDS, black_box(line.as_ptr()), line.len(), &mut x, &mut y) }, 0);
-                black_box((x, y));
+                let (mut x, mut y, mut place) = (0, 0, 0);
+                assert_eq!(unsafe { (api.apply_line)(copy.as_mut_ptr(), WORDS, black_box(line.as_ptr()), line.len(), &mut x, &mut y, &mut place) }, 0);
+                black_box((x, y, place));
             }
             began.elapsed().as_nanos() as f64 / COPIES as f64
         }));
@@ -323,11 +342,11 @@ fn lines_applied(rows: &mut Vec<Row>, name: &str, actions: &[Action]) {
         let (words, after, text, mut copy) = (words.clone(), after.clone(), text.clone(), words.clone());
         samples.push(Box::new(move || {
             copy.copy_from_slice(&words);
-            let (mut applied, mut refused, mut stopped) = (0, 0, 0);
+            let (mut applied, mut refused, mut stopped, mut place) = (0, 0, 0, 0);
             let began = Instant::now();
-            let number = unsafe { (api.apply_lines)(copy.as_mut_ptr(), WORDS, black_box(text.as_ptr()), text.len(), &mut applied, &mut refused, &mut stopped) };
+            let number = unsafe { (api.apply_lines)(copy.as_mut_ptr(), WORDS, black_box(text.as_ptr()), text.len(), &mut applied, &mut refused, &mut stopped, &mut place) };
             let took = began.elapsed().as_nanos() as f64 / many as f64;
-            assert_eq!((number, applied, refused as u32, stopped), (0, many, said[2], text.len()));
+            assert_eq!((number, applied, refused as u32, stopped, place), (0, many, said[2], text.len(), 0));
             assert!(copy == after);
             took
         }));

@@ -24,8 +24,8 @@ const char *pollencart_refusal_text(uint32_t number)
         return "a write's timestamp is not above, or a session's reading is below, the node's own summary entry";
     case POLLENCART_FULL:
         return "a write finds 64 records held, or a finishing side would hold more than 64";
-    case POLLENCART_SHAPE:
-        return "the digits are none or odd in number, the kind is unknown, the length is not the kind's, or an outcome is above 3";
+    case POLLENCART_KIND:
+        return "the kind is unknown";
     case POLLENCART_DIGIT:
         return "a character is not 0 to 9 or A to F";
     case POLLENCART_SUM:
@@ -37,7 +37,13 @@ const char *pollencart_refusal_text(uint32_t number)
     case POLLENCART_LONG:
         return "the journal exceeds 65,536 bytes";
     case POLLENCART_ROOM:
-        return "the lent bytes are too few for the frame";
+        return "the lent bytes are too few for the frame, or the lent words for a line's values";
+    case POLLENCART_ODD:
+        return "the digits are none or odd in number";
+    case POLLENCART_LENGTH:
+        return "the length is not the kind's";
+    case POLLENCART_LINE_OUTCOME:
+        return "a line's outcome is above 3";
     /* end of refusals */
     default:
         return "no refusal has this number";

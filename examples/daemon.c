@@ -33,20 +33,21 @@ static void finding(uint8_t node, uint32_t timestamp, uint32_t block, uint8_t ve
 {
     uint8_t frame[POLLENCART_FRAME];
     uint32_t length = frame_of(frame, node, timestamp, block, verdict), first, second;
+    size_t place; /* of a fault in the line */
     /* the line without its LF; a write has nothing to count */
-    refused("line", pollencart_line(table, POLLENCART_TABLE, frame, length - 1, &first, &second));
+    refused("line", pollencart_apply_line(table, POLLENCART_TABLE, frame, length - 1, &first, &second, &place));
 }
 
 /* Lines that come in together, applied in one call; a refused line is told and passed over, so a second call goes on after it. */
 static void arrive(const uint8_t *lines, size_t length)
 {
-    size_t at = 0, line = 1, late = 0, applied, bad, stopped;
+    size_t at = 0, line = 1, late = 0, applied, bad, stopped, place;
     for (;;) {
-        uint32_t number = pollencart_lines(table, POLLENCART_TABLE, lines + at, length - at, &applied, &bad, &stopped);
+        uint32_t number = pollencart_apply_lines(table, POLLENCART_TABLE, lines + at, length - at, &applied, &bad, &stopped, &place);
         line += applied, late += bad, at += stopped;
         if (number == 0)
             break;
-        fprintf(stderr, "line %zu refused with %" PRIu32 ": %s\n", line++, number, pollencart_refusal_text(number));
+        fprintf(stderr, "line %zu refused with %" PRIu32 " at place %zu: %s\n", line++, number, place, pollencart_refusal_text(number));
         const uint8_t *lf = memchr(lines + at, '\n', length - at);
         if (number == POLLENCART_UNSOUND || lf == NULL)
             exit(1);

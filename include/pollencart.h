@@ -11,11 +11,11 @@
  * Compare wider numbers yourself first; -Wconversion shows where C would cut one.
  *
  * A null pointer is allowed where its length is 0, and gets what any list of length 0 gets:
- *   check 11; kind and field 0; the frame writers 17 (after 15 for n and 2 for the outcome) and the length 0;
+ *   check_line and read_line 18 at place 0 (read_line of a frame into no words 17); kind and field 0; the frame writers 17 (after 15 for n and 2 for the outcome) and the length 0;
  *   fresh, write, session, purge and count_node 1, and counts of 0; summary, acknowledgement, held and record 0;
- *   line 11 and counts of 0 for no line, whatever the table, and 1 for a step's line and no table;
- *   lines 0, counts of 0 and the place 0 for no lines on a sound table, and 1 with the same zeros for no table;
- *   count 0, and counts of 0; replay the text `BAD 1 15` for no journal, and the answer 0 for no table or no out.
+ *   apply_line 18 at place 0 and counts of 0 for no line, whatever the table, and 1 for a step's line and no table;
+ *   apply_lines 0, counts of 0 and the places 0 for no lines on a sound table, and 1 with the same zeros for no table;
+ *   count 0, and counts of 0; replay the text `BAD 1 15 0` for no journal, and the answer 0 for no table or no out.
  */
 #ifndef POLLENCART_H
 #define POLLENCART_H
@@ -28,9 +28,9 @@ extern "C" {
 #endif
 
 /* The version of this header, generated: version */
-#define POLLENCART_VERSION "0.1.0"
+#define POLLENCART_VERSION "0.2.0"
 #define POLLENCART_VERSION_MAJOR 0
-#define POLLENCART_VERSION_MINOR 1
+#define POLLENCART_VERSION_MINOR 2
 #define POLLENCART_VERSION_PATCH 0
 /* end of version */
 
@@ -38,19 +38,22 @@ extern "C" {
 const char *pollencart_version(void);
 
 /* Refusal numbers; 0 is none. generated: refusals */
-#define POLLENCART_UNSOUND 1  /* the table is not sound, or a fresh table's count or length, or the records to count, are wrong */
-#define POLLENCART_OUTCOME 2  /* a session's outcome is above 3 */
-#define POLLENCART_NODE 3     /* a node number is n or more */
-#define POLLENCART_TWICE 4    /* a session names one node twice */
-#define POLLENCART_CLOCK 5    /* a write's timestamp is not above, or a session's reading is below, the node's own summary entry */
-#define POLLENCART_FULL 6     /* a write finds 64 records held, or a finishing side would hold more than 64 */
-#define POLLENCART_SHAPE 11   /* the digits are none or odd in number, the kind is unknown, the length is not the kind's, or an outcome is above 3 */
-#define POLLENCART_DIGIT 12   /* a character is not 0 to 9 or A to F */
-#define POLLENCART_SUM 13     /* the bytes do not add up to zero */
-#define POLLENCART_UNENDED 14 /* bytes are left but no LF follows */
-#define POLLENCART_START 15   /* the first line is no start, a later line is one, or a start's n is not 2 to 16 */
-#define POLLENCART_LONG 16    /* the journal exceeds 65,536 bytes */
-#define POLLENCART_ROOM 17    /* the lent bytes are too few for the frame */
+#define POLLENCART_UNSOUND 1       /* the table is not sound, or a fresh table's count or length, or the records to count, are wrong */
+#define POLLENCART_OUTCOME 2       /* a session's outcome is above 3 */
+#define POLLENCART_NODE 3          /* a node number is n or more */
+#define POLLENCART_TWICE 4         /* a session names one node twice */
+#define POLLENCART_CLOCK 5         /* a write's timestamp is not above, or a session's reading is below, the node's own summary entry */
+#define POLLENCART_FULL 6          /* a write finds 64 records held, or a finishing side would hold more than 64 */
+#define POLLENCART_KIND 11         /* the kind is unknown */
+#define POLLENCART_DIGIT 12        /* a character is not 0 to 9 or A to F */
+#define POLLENCART_SUM 13          /* the bytes do not add up to zero */
+#define POLLENCART_UNENDED 14      /* bytes are left but no LF follows */
+#define POLLENCART_START 15        /* the first line is no start, a later line is one, or a start's n is not 2 to 16 */
+#define POLLENCART_LONG 16         /* the journal exceeds 65,536 bytes */
+#define POLLENCART_ROOM 17         /* the lent bytes are too few for the frame, or the lent words for a line's values */
+#define POLLENCART_ODD 18          /* the digits are none or odd in number */
+#define POLLENCART_LENGTH 19       /* the length is not the kind's */
+#define POLLENCART_LINE_OUTCOME 20 /* a line's outcome is above 3 */
 /* end of refusals */
 
 /* What is wrong, as in the list above: for a number that is not there and for 0 it says so. It ends in a zero byte and is never null.
@@ -83,15 +86,31 @@ const char *pollencart_refusal_text(uint32_t number);
 /* The words of a table. */
 #define POLLENCART_TABLE 4625
 
-/* Frames: one line of uppercase hexadecimal. The three readers take a line without its LF; they write nothing.
+/* Frames: one line of uppercase hexadecimal. The four readers take a line without its LF and leave it as it is.
  *
- * check: 0 if the line is a frame, else 12, 11, 13 or 15, the first that applies.
- * kind:  0 start, 1 write, 2 session, 3 purge (POLLENCART_KIND_..). 0 for a line that check refuses: ask check first.
- * field: the field at this place among the kind's fields, from 0.
- *          start: n              write: node, timestamp, block, verdict
- *          purge: node           session: a, b, ca, cb, outcome
- *        0 for a line that check refuses, and for a place at which the kind has no field. */
-uint32_t pollencart_check(const uint8_t *line, size_t line_len);
+ * check_line: 0 if the line is a frame, else the first that applies of the numbers below, and through place where in the line, from 0, the
+ *             first character at fault stands (at most line_len; 0 for a frame):
+ *               12  the first character that is no digit
+ *               18  line_len: a digit lacks after the last (0 for an empty line)
+ *               11  0, the kind's first digit
+ *               19  too short: line_len; too long: the kind's number of digits, the first character too many
+ *               20  the outcome byte's first digit, 22 for a session
+ *               13  the check byte's first digit, line_len - 2
+ *               15  0: a start's n is not 2 to 16
+ * read_line:  the same, and for a frame the kind and all fields at once into the first POLLENCART_VALUES of the words lent: values[0] is the
+ *             kind, then come its fields as below, then 0. A refused line leaves the words as they are, and so does 17, given after the
+ *             others, at place 0, where values_len is below POLLENCART_VALUES.
+ * kind:       0 start, 1 write, 2 session, 3 purge (POLLENCART_KIND_..). 0 for a line that check_line refuses: ask it first.
+ * field:      the field at this place among the kind's fields, from 0.
+ *               start: n              write: node, timestamp, block, verdict
+ *               purge: node           session: a, b, ca, cb, outcome
+ *             0 for a line that check_line refuses, and for a place at which the kind has no field.
+ *
+ * Before version 0.2.0 there was pollencart_check, without a place, and 11 stood for 18, 19 and 20 too. It is gone, and POLLENCART_SHAPE with it, so that
+ * code for that version does not compile, and code compiled with its header does not link, instead of taking one number for another. */
+#define POLLENCART_VALUES 6 /* the words that read_line fills: the kind and five fields */
+uint32_t pollencart_check_line(const uint8_t *line, size_t line_len, size_t *place);
+uint32_t pollencart_read_line(const uint8_t *line, size_t line_len, uint32_t *values, size_t values_len, size_t *place);
 uint32_t pollencart_kind(const uint8_t *line, size_t line_len);
 uint32_t pollencart_field(const uint8_t *line, size_t line_len, uint32_t index);
 
@@ -137,27 +156,28 @@ uint32_t pollencart_session(uint32_t *table, size_t table_len, uint8_t a, uint8_
                             uint32_t *to_a, uint32_t *to_b);
 uint32_t pollencart_purge(uint32_t *table, size_t table_len, uint8_t node, uint32_t *removed);
 
-/* From lines to the table. Both calls read what check, kind and field read and do what the three actions do, and nothing else; a
- * refusal changes no word of the table. Lines are those of a table that is there already: a start among them is refused with 15.
+/* From lines to the table. Both calls read what check_line reads and do what the three actions do, and nothing else; a refusal
+ * changes no word of the table. Lines are those of a table that is there already: a start among them is refused with 15.
  *
- * line:  one line, without its LF. Answers 0, or the line's own refusal (12, 11, 13 or 15 as check gives it, 15 also for a
- *              start), which comes before anything about the table; then the step's: the first of 1 to 6 that applies.
- *              What the step counts is stored through first and second: for a session what was carried to a and to b, for a purge
- *              what was removed and 0, for a write 0 and 0. Both are 0 if refused.
- * lines: many lines, each ended by its LF, one after another, with one look over the table at the beginning. A refused step is
+ * apply_line:  one line, without its LF. Answers 0, or the line's own refusal with its place as check_line gives them (15 at place
+ *              0 also for a start), which comes before anything about the table; then the step's: the first of 1 to 6 that applies,
+ *              with place 0. What the step counts is stored through first and second: for a session what was carried to a and to b,
+ *              for a purge what was removed and 0, for a write 0 and 0. Both are 0 if refused.
+ * apply_lines: many lines, each ended by its LF, one after another, with one look over the table at the beginning. A refused step is
  *              counted and passed over; the first refused line ends the call, and the steps before it stay applied.
- *              Answers 0 where the end of the lines was reached, 11, 12, 13 or 15 for the refused line, 14 where bytes are left that
- *              no LF ends. Stores how many steps there were through applied, how many of them were refused through refused, and
- *              through stopped the place where the reading stopped: lines_len at the end, else where the refused line begins.
- *              That line is the one numbered *applied + 1, from 1. There is no limit on lines_len.
- *              A table that is not sound is answered with 1 before any line is read: 0 and 0 are stored, and the place 0.
+ *              Answers 0 where the end of the lines was reached, the number of check_line for the refused line, 14 where bytes are
+ *              left that no LF ends. Stores how many steps there were through applied, how many of them were refused through
+ *              refused, through stopped the place where the reading stopped (lines_len at the end, else where the refused line
+ *              begins), and through place the fault's place in that line, from 0: that of check_line, for 14 the number of bytes
+ *              left, 0 at the end. That line is the one numbered *applied + 1, from 1. There is no limit on lines_len.
+ *              A table that is not sound is answered with 1 before any line is read: zeros are stored.
  *
  * To go on after a refused line, look for its LF and call again with what follows it:
  *
- *   size_t at = 0, applied, refused, stopped;
+ *   size_t at = 0, applied, refused, stopped, place;
  *   uint32_t number;
- *   while ((number = pollencart_lines(table, POLLENCART_TABLE, lines + at, len - at, &applied, &refused, &stopped)) != 0) {
- *       report(number, lines + at + stopped);
+ *   while ((number = pollencart_apply_lines(table, POLLENCART_TABLE, lines + at, len - at, &applied, &refused, &stopped, &place)) != 0) {
+ *       report(number, lines + at + stopped, place);
  *       const uint8_t *lf = memchr(lines + at + stopped, '\n', len - at - stopped);
  *       if (number == POLLENCART_UNSOUND || lf == NULL)
  *           break;
@@ -165,9 +185,10 @@ uint32_t pollencart_purge(uint32_t *table, size_t table_len, uint8_t node, uint3
  *   }
  *
  * With 14 the bytes from at + stopped on are the beginning of a line: keep them in front of what comes next. */
-uint32_t pollencart_line(uint32_t *table, size_t table_len, const uint8_t *line, size_t line_len, uint32_t *first, uint32_t *second);
-uint32_t pollencart_lines(uint32_t *table, size_t table_len, const uint8_t *lines, size_t lines_len, size_t *applied, size_t *refused,
-                                size_t *stopped);
+uint32_t pollencart_apply_line(uint32_t *table, size_t table_len, const uint8_t *line, size_t line_len, uint32_t *first, uint32_t *second,
+                               size_t *place);
+uint32_t pollencart_apply_lines(uint32_t *table, size_t table_len, const uint8_t *lines, size_t lines_len, size_t *applied,
+                                size_t *refused, size_t *stopped, size_t *place);
 
 /* Reading a table. Each call answers 0 where there is none: for a table that is not sound, for a node, origin or `of` of n or
  * more, for an index at or beyond the held number, for a word above 3. 0 is also a value that may stand there.
@@ -198,8 +219,9 @@ uint32_t pollencart_count_node(const uint32_t *table, size_t table_len, uint8_t 
  * text. Otherwise there is a text, never empty, and it does not depend on what the table held:
  *   - the journal came to its end: N, STEPS and REFUSED, then a line a node. A refused step is counted and passed over.
  *     The table is a fresh one after all steps, sound.
- *   - a line was refused: `BAD line number`, the number 11, 12, 13 or 15 as above, 14 for bytes that no LF ends, and 15 also for
- *     a first line that is no start, for a later one that is, and for an empty journal (BAD 1 15).
+ *   - a line was refused: `BAD line number place`, number and place as check_line gives them; 14 for bytes that no LF ends, its
+ *     place the number of bytes left; and 15 at place 0 also for a first line that is no start, for a later one that is, and for
+ *     an empty journal (BAD 1 15 0).
  *     If it was the first line, no word of the table is changed, sound or not; if a later one, the table is a fresh one after
  *     the steps before that line, sound.
  *   - journal_len is above POLLENCART_JOURNAL: `BAD 0 16`. Its bytes play no part, no word of the table is changed. */

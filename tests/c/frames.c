@@ -25,19 +25,45 @@ static int untouched(const struct lent *b, size_t n) {
     return memcmp(b->all, b->copy, GUARD) == 0 && memcmp(b->all + GUARD + n, b->copy + GUARD + n, sizeof b->all - GUARD - n) == 0;
 }
 
+/* The number of a line's refusal; its place is stored in `place`. */
+static size_t place;
+
 static uint32_t check(const char *line, size_t len) {
     struct lent b;
     lend(&b, line, len);
-    uint32_t r = pollencart_check(bytes(&b), len);
-    expect(untouched(&b, 0), line, "check left the line alone");
+    place = (size_t)-1;
+    uint32_t r = pollencart_check_line(bytes(&b), len, &place);
+    expect(untouched(&b, 0), line, "check_line left the line alone");
+    expect(place <= len && (r || place == 0), line, "a place in the line, 0 for a frame");
     return r;
 }
 
-static void reads(const char *line, uint32_t refusal, uint32_t kind, const uint32_t *fields, uint32_t count) {
+/* read_line into every number of words up to eight: the kind and the fields in the first six, and no other word is written. */
+static void values(const char *line, uint32_t refusal, size_t at, uint32_t kind, const uint32_t *fields, uint32_t count) {
     struct lent b;
     size_t len = strlen(line);
     lend(&b, line, len);
-    expect(check(line, len) == refusal, line, "check");
+    for (size_t many = 0; many <= 8; many++) {
+        uint32_t words[8], due = refusal ? refusal : many < POLLENCART_VALUES ? POLLENCART_ROOM : 0;
+        size_t where = (size_t)-1;
+        for (uint32_t i = 0; i < 8; i++) words[i] = UNSET + i;
+        expect(pollencart_read_line(bytes(&b), len, words, many, &where) == due, line, "read_line");
+        expect(where == (refusal ? at : 0), line, "its place");
+        for (uint32_t i = 0; i < 8; i++) {
+            uint32_t value = i == 0 ? kind : i <= count ? fields[i - 1] : 0;
+            expect(words[i] == (due || i >= POLLENCART_VALUES ? UNSET + i : value), line, "its words");
+        }
+    }
+    expect(untouched(&b, 0), line, "read_line left the line alone");
+}
+
+static void reads(const char *line, uint32_t refusal, size_t at, uint32_t kind, const uint32_t *fields, uint32_t count) {
+    struct lent b;
+    size_t len = strlen(line);
+    lend(&b, line, len);
+    expect(check(line, len) == refusal, line, "check_line");
+    expect(place == at, line, "its place");
+    values(line, refusal, at, kind, fields, count);
     expect(pollencart_kind(bytes(&b), len) == kind, line, "kind");
     for (uint32_t i = 0; i < count; i++) expect(pollencart_field(bytes(&b), len, i) == fields[i], line, "field");
     for (uint32_t i = count; i < count + 8; i++) expect(pollencart_field(bytes(&b), len, i) == 0, line, "no such field");
@@ -46,7 +72,7 @@ static void reads(const char *line, uint32_t refusal, uint32_t kind, const uint3
     expect(untouched(&b, 0), line, "kind and field left the line alone");
 }
 
-static void refused(const char *line, uint32_t number) { reads(line, number, 0, NULL, 0); }
+static void refused(const char *line, uint32_t number, size_t at) { reads(line, number, at, 0, NULL, 0); }
 
 /* No frame stays one when one of its characters becomes another byte, or when it is cut or made longer. */
 static void damaged(const char *line) {
@@ -59,17 +85,19 @@ static void damaged(const char *line) {
             int digit = (c >= '0' && c <= '9') || (c >= 'A' && c <= 'F');
             uint32_t r = check(wrong, len);
             if (c == (uint8_t)line[at]) expect(r == 0, line, "the frame itself");
-            else if (!digit) expect(r == POLLENCART_DIGIT, line, "a character that is no digit");
-            else expect(r == POLLENCART_SHAPE || r == POLLENCART_SUM || r == POLLENCART_START, line, "another digit");
+            else if (!digit) expect(r == POLLENCART_DIGIT && place == at, line, "a character that is no digit");
+            else if (at < 2) expect(r == POLLENCART_KIND || r == POLLENCART_LENGTH || r == POLLENCART_SUM || r == POLLENCART_START, line, "another kind");
+            else if (r == POLLENCART_LINE_OUTCOME) expect(place == 22 && (at == 22 || at == 23), line, "another outcome");
+            else expect(r == POLLENCART_SUM && place == len - 2, line, "another digit");
         }
-    for (size_t n = 0; n < len; n++) expect(check(line, n) != 0, line, "cut");
+    for (size_t n = 0; n < len; n++) expect(check(line, n) == (n % 2 || n == 0 ? POLLENCART_ODD : POLLENCART_LENGTH) && place == n, line, "cut");
     memcpy(wrong, line, len);
     wrong[len] = '\n';
-    expect(check(wrong, len + 1) == POLLENCART_DIGIT, line, "with its LF");
+    expect(check(wrong, len + 1) == POLLENCART_DIGIT && place == len, line, "with its LF");
     wrong[len] = '0';
-    expect(check(wrong, len + 1) == POLLENCART_SHAPE, line, "one digit more");
+    expect(check(wrong, len + 1) == POLLENCART_ODD && place == len + 1, line, "one digit more");
     wrong[len + 1] = '0';
-    expect(check(wrong, len + 2) == POLLENCART_SHAPE, line, "one byte more");
+    expect(check(wrong, len + 2) == POLLENCART_LENGTH && place == len, line, "one byte more");
 }
 
 /* One frame to write: its kind and fields. */
@@ -121,36 +149,42 @@ static void writes(const struct frame *x, uint32_t before) {
     }
     if (!before) {
         text[need - 1] = '\0';
-        reads(text, 0, x->kind, x->f, counts[x->kind]);
+        reads(text, 0, 0, x->kind, x->f, counts[x->kind]);
     }
 }
 
 int main(void) {
-    refused("", POLLENCART_SHAPE);
-    refused("0", POLLENCART_SHAPE);
-    refused("000", POLLENCART_SHAPE);
-    refused("00", POLLENCART_SHAPE);
-    refused("0400FC", POLLENCART_SHAPE);
-    refused("FF0001", POLLENCART_SHAPE);
-    refused("0002FE00", POLLENCART_SHAPE);
-    refused("0100000000050000001010", POLLENCART_SHAPE);
-    refused("020001000000060000000404EF", POLLENCART_SHAPE);
-    refused("02000100000006000000040400", POLLENCART_SHAPE);
-    refused("0002FF", POLLENCART_SUM);
-    refused("0001FE", POLLENCART_SUM);
-    refused("0001FF", POLLENCART_START);
-    refused("0011EF", POLLENCART_START);
-    refused("000000", POLLENCART_START);
-    refused("0002fe", POLLENCART_DIGIT);
-    refused("g", POLLENCART_DIGIT);
-    refused("04000G", POLLENCART_DIGIT);
-    refused("0002FE\n", POLLENCART_DIGIT);
-    refused("0002FE ", POLLENCART_DIGIT);
-    reads("0002FE", 0, 0, (const uint32_t[]){2}, 1);
-    reads("0010F0", 0, 0, (const uint32_t[]){16}, 1);
-    reads("0100000000050000001010DA", 0, 1, (const uint32_t[]){0, 5, 16, 16}, 4);
-    reads("020001000000060000000403F0", 0, 2, (const uint32_t[]){0, 1, 6, 4, 3}, 5);
-    reads("0300FD", 0, 3, (const uint32_t[]){0}, 1);
+    refused("", POLLENCART_ODD, 0);
+    refused("0", POLLENCART_ODD, 1);
+    refused("000", POLLENCART_ODD, 3);
+    refused("04000", POLLENCART_ODD, 5);
+    refused("04", POLLENCART_KIND, 0);
+    refused("0400FC", POLLENCART_KIND, 0);
+    refused("0400FF", POLLENCART_KIND, 0);
+    refused("FF0001", POLLENCART_KIND, 0);
+    refused("00", POLLENCART_LENGTH, 2);
+    refused("0300", POLLENCART_LENGTH, 4);
+    refused("0002FE00", POLLENCART_LENGTH, 6);
+    refused("0100000000050000001010", POLLENCART_LENGTH, 22);
+    refused("0100000000050000001010DA00", POLLENCART_LENGTH, 24);
+    refused("020001000000060000000404EF", POLLENCART_LINE_OUTCOME, 22);
+    refused("02000100000006000000040400", POLLENCART_LINE_OUTCOME, 22);
+    refused("0002FF", POLLENCART_SUM, 4);
+    refused("0001FE", POLLENCART_SUM, 4);
+    refused("020001000000060000000403F1", POLLENCART_SUM, 24);
+    refused("0001FF", POLLENCART_START, 0);
+    refused("0011EF", POLLENCART_START, 0);
+    refused("000000", POLLENCART_START, 0);
+    refused("0002fe", POLLENCART_DIGIT, 4);
+    refused("g", POLLENCART_DIGIT, 0);
+    refused("04000G", POLLENCART_DIGIT, 5);
+    refused("0002FE\n", POLLENCART_DIGIT, 6);
+    refused("0002FE ", POLLENCART_DIGIT, 6);
+    reads("0002FE", 0, 0, 0, (const uint32_t[]){2}, 1);
+    reads("0010F0", 0, 0, 0, (const uint32_t[]){16}, 1);
+    reads("0100000000050000001010DA", 0, 0, 1, (const uint32_t[]){0, 5, 16, 16}, 4);
+    reads("020001000000060000000403F0", 0, 0, 2, (const uint32_t[]){0, 1, 6, 4, 3}, 5);
+    reads("0300FD", 0, 0, 3, (const uint32_t[]){0}, 1);
     damaged("0002FE");
     damaged("0100000000050000001010DA");
     damaged("020001000000060000000403F0");

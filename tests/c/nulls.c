@@ -19,7 +19,15 @@ static void expect(const char *what, uint32_t got, uint32_t wanted) {
 
 /* Lines, frames and records: bytes or words of length 0. */
 static void lists(uint8_t *bytes, uint32_t *words) {
-    expect("check", pollencart_check(bytes, 0), POLLENCART_SHAPE);
+    size_t place = UNSET;
+    expect("check_line", pollencart_check_line(bytes, 0, &place), POLLENCART_ODD);
+    expect("its place", (uint32_t)place, 0);
+    place = UNSET;
+    expect("read_line", pollencart_read_line(bytes, 0, words, 0, &place), POLLENCART_ODD);
+    expect("its place", (uint32_t)place, 0);
+    place = UNSET;
+    expect("read_line into no words", pollencart_read_line((const uint8_t *)"0300FD", 6, words, 0, &place), POLLENCART_ROOM);
+    expect("its place", (uint32_t)place, 0);
     expect("kind", pollencart_kind(bytes, 0), 0);
     for (uint32_t i = 0; i < 6; i++) expect("field", pollencart_field(bytes, 0, i), 0);
     expect("field", pollencart_field(bytes, 0, UINT32_MAX), 0);
@@ -73,24 +81,25 @@ static void lines(uint8_t *bytes, uint32_t *words) {
     static const uint8_t write[] = "0100000000050000001010DA\n";
     static uint32_t table[POLLENCART_TABLE];
     uint32_t first = UNSET, second = UNSET;
-    size_t applied = UNSET, refused = UNSET, stopped = UNSET;
+    size_t applied = UNSET, refused = UNSET, stopped = UNSET, place = UNSET;
     expect("fresh", pollencart_fresh(table, POLLENCART_TABLE, 2), 0);
-    expect("line of no line", pollencart_line(table, POLLENCART_TABLE, bytes, 0, &first, &second), POLLENCART_SHAPE);
-    expect("its counts", first == 0 && second == 0, 1);
-    first = second = UNSET;
-    expect("line, no table", pollencart_line(words, 0, write, 24, &first, &second), POLLENCART_UNSOUND);
-    expect("its counts", first == 0 && second == 0, 1);
-    first = second = UNSET;
-    expect("line of nothing", pollencart_line(words, 0, bytes, 0, &first, &second), POLLENCART_SHAPE);
-    expect("its counts", first == 0 && second == 0, 1);
-    expect("lines of no lines", pollencart_lines(table, POLLENCART_TABLE, bytes, 0, &applied, &refused, &stopped), 0);
-    expect("what is stored", applied == 0 && refused == 0 && stopped == 0, 1);
-    applied = refused = stopped = UNSET;
-    expect("lines, no table", pollencart_lines(words, 0, write, 25, &applied, &refused, &stopped), POLLENCART_UNSOUND);
-    expect("what is stored", applied == 0 && refused == 0 && stopped == 0, 1);
-    applied = refused = stopped = UNSET;
-    expect("lines of nothing", pollencart_lines(words, 0, bytes, 0, &applied, &refused, &stopped), POLLENCART_UNSOUND);
-    expect("what is stored", applied == 0 && refused == 0 && stopped == 0, 1);
+    expect("apply_line of no line", pollencart_apply_line(table, POLLENCART_TABLE, bytes, 0, &first, &second, &place), POLLENCART_ODD);
+    expect("its counts and place", first == 0 && second == 0 && place == 0, 1);
+    first = second = UNSET, place = UNSET;
+    expect("apply_line, no table", pollencart_apply_line(words, 0, write, 24, &first, &second, &place), POLLENCART_UNSOUND);
+    expect("its counts and place", first == 0 && second == 0 && place == 0, 1);
+    first = second = UNSET, place = UNSET;
+    expect("apply_line of nothing", pollencart_apply_line(words, 0, bytes, 0, &first, &second, &place), POLLENCART_ODD);
+    expect("its counts and place", first == 0 && second == 0 && place == 0, 1);
+    place = UNSET;
+    expect("apply_lines of no lines", pollencart_apply_lines(table, POLLENCART_TABLE, bytes, 0, &applied, &refused, &stopped, &place), 0);
+    expect("what is stored", applied == 0 && refused == 0 && stopped == 0 && place == 0, 1);
+    applied = refused = stopped = place = UNSET;
+    expect("apply_lines, no table", pollencart_apply_lines(words, 0, write, 25, &applied, &refused, &stopped, &place), POLLENCART_UNSOUND);
+    expect("what is stored", applied == 0 && refused == 0 && stopped == 0 && place == 0, 1);
+    applied = refused = stopped = place = UNSET;
+    expect("apply_lines of nothing", pollencart_apply_lines(words, 0, bytes, 0, &applied, &refused, &stopped, &place), POLLENCART_UNSOUND);
+    expect("what is stored", applied == 0 && refused == 0 && stopped == 0 && place == 0, 1);
     expect("the table", pollencart_held(table, POLLENCART_TABLE, 0), 0);
 }
 
@@ -99,7 +108,7 @@ static void replays(uint8_t *bytes, uint32_t *words) {
     static const uint8_t journal[] = "0002FE\n";
     static uint32_t table[POLLENCART_TABLE];
     static uint8_t out[POLLENCART_TEXT];
-    const char *bad = "BAD 1 15\n";
+    const char *bad = "BAD 1 15 0\n";
     memset(out, 0, sizeof out);
     uint32_t length = pollencart_replay(bytes, 0, table, POLLENCART_TABLE, out, sizeof out);
     expect("replay of no journal", length, (uint32_t)strlen(bad));

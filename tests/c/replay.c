@@ -54,18 +54,18 @@ int main(void) {
     replays("a table one word short", n, WORDS - 1, TEXT, "", 1);
     replays("a table one word long", n, WORDS + 1, TEXT, "", 1);
     replays("a table of no word", n, 0, TEXT, "", 1);
-    replays("an empty journal", 0, WORDS, TEXT, "BAD 1 15\n", 1);
-    replays("no LF", 6, WORDS, TEXT, "BAD 1 14\n", 1);
-    replays("no LF after the last line", n - 1, WORDS, TEXT, "BAD 7 14\n", 0);
+    replays("an empty journal", 0, WORDS, TEXT, "BAD 1 15 0\n", 1);
+    replays("no LF", 6, WORDS, TEXT, "BAD 1 14 6\n", 1);
+    replays("no LF after the last line", n - 1, WORDS, TEXT, "BAD 7 14 6\n", 0);
     n = say(WRITE);
-    replays("no start", n, WORDS, TEXT, "BAD 1 15\n", 1);
+    replays("no start", n, WORDS, TEXT, "BAD 1 15 0\n", 1);
     n = say(START WRITE "0002FF\n" WRITE);
-    replays("a sum that is not zero", n, WORDS, TEXT, "BAD 3 13\n", 0);
+    replays("a sum that is not zero", n, WORDS, TEXT, "BAD 3 13 4\n", 0);
     expect(table[COUNT] == 2 && table[summary_at(0, 0)] == 5 && table[held_at(0)] == 1, "a sum that is not zero", "the steps before it");
     n = say(START WRITE WRITE);
     replays("a write refused", n, WORDS, TEXT, "N 2 STEPS 2 REFUSED 1\n0 S 5 0 K 0 0 L 1\n1 S 0 0 K 0 0 L 0\n", 0);
     memset(journal, '\n', sizeof journal);
-    replays("the longest journal", JOURNAL, WORDS, TEXT, "BAD 1 11\n", 1);
+    replays("the longest journal", JOURNAL, WORDS, TEXT, "BAD 1 18 0\n", 1);
     replays("a journal one byte too long", JOURNAL + 1, WORDS, TEXT, "BAD 0 16\n", 1);
     return told("replay");
 }

@@ -8,7 +8,8 @@
 #include <string.h>
 #include <sys/mman.h>
 
-uint32_t plain_check(const uint8_t *, size_t);
+uint32_t plain_check_line(const uint8_t *, size_t, size_t *);
+uint32_t plain_read_line(const uint8_t *, size_t, uint32_t *, size_t, size_t *);
 uint32_t plain_kind(const uint8_t *, size_t);
 uint32_t plain_field(const uint8_t *, size_t, uint32_t);
 uint32_t plain_count(const uint32_t *, size_t, uint32_t *, uint32_t *);
@@ -17,8 +18,8 @@ uint32_t plain_fresh(uint32_t *, size_t, uint32_t);
 uint32_t plain_write(uint32_t *, size_t, uint8_t, uint32_t, uint32_t, uint8_t);
 uint32_t plain_session(uint32_t *, size_t, uint8_t, uint8_t, uint32_t, uint32_t, uint8_t, uint32_t *, uint32_t *);
 uint32_t plain_purge(uint32_t *, size_t, uint8_t, uint32_t *);
-uint32_t plain_apply_line(uint32_t *, size_t, const uint8_t *, size_t, uint32_t *, uint32_t *);
-uint32_t plain_apply_lines(uint32_t *, size_t, const uint8_t *, size_t, size_t *, size_t *, size_t *);
+uint32_t plain_apply_line(uint32_t *, size_t, const uint8_t *, size_t, uint32_t *, uint32_t *, size_t *);
+uint32_t plain_apply_lines(uint32_t *, size_t, const uint8_t *, size_t, size_t *, size_t *, size_t *, size_t *);
 uint32_t plain_summary(const uint32_t *, size_t, uint8_t, uint8_t);
 uint32_t plain_acknowledgement(const uint32_t *, size_t, uint8_t, uint8_t);
 uint32_t plain_held(const uint32_t *, size_t, uint8_t);

@@ -73,7 +73,7 @@ static size_t put_line(uint8_t *out)
 /* One line or many on both tables. */
 static void text(uint32_t *table, size_t length, uint32_t op)
 {
-    size_t size = 0, s[6] = { 7, 7, 7, 7, 7, 7 };
+    size_t size = 0, s[8] = { 7, 7, 7, 7, 7, 7, 7, 7 };
     uint32_t w[4] = { 7, 7, 7, 7 };
     for (uint32_t lines = op & 32 ? 1 : number(1) % 16; lines; lines--)
         size += put_line(made + size);
@@ -82,11 +82,11 @@ static void text(uint32_t *table, size_t length, uint32_t op)
     uint8_t *at = lend(&text_part, sizeof made, size, (int)(op & 1));
     memcpy(at, made, size);
     if (op & 32) {
-        same(pollencart_line(table, length, at, size, w, w + 1) == plain_apply_line(plain, length, made, size, w + 2, w + 3), "apply_line");
-        same(w[0] == w[2] && w[1] == w[3], "what a line counts");
+        same(pollencart_apply_line(table, length, at, size, w, w + 1, s) == plain_apply_line(plain, length, made, size, w + 2, w + 3, s + 4), "apply_line");
+        same(w[0] == w[2] && w[1] == w[3] && s[0] == s[4], "what a line counts, and its place");
     } else {
-        same(pollencart_lines(table, length, at, size, s, s + 1, s + 2) == plain_apply_lines(plain, length, made, size, s + 3, s + 4, s + 5), "apply_lines");
-        same(s[0] == s[3] && s[1] == s[4] && s[2] == s[5], "how far lines came");
+        same(pollencart_apply_lines(table, length, at, size, s, s + 1, s + 2, s + 3) == plain_apply_lines(plain, length, made, size, s + 4, s + 5, s + 6, s + 7), "apply_lines");
+        same(s[0] == s[4] && s[1] == s[5] && s[2] == s[6] && s[3] == s[7], "how far lines came, and the place");
     }
     same(!memcmp(at, made, size), "the lines' bytes");
 }

@@ -55,15 +55,37 @@ static uint32_t *put(uint32_t *out, const void *from, size_t bytes)
     return out + (bytes + 3) / 4;
 }
 
-/* The answers to a line: check, kind, fields 0 to 5, a field far out, and whether the line stayed. */
+/* The answers of read into this many words: number, place, and the words, which begin as A5A5A5A5. */
+static uint32_t *values(const uint8_t *at, uint32_t size, uint32_t many, uint32_t *out)
+{
+    size_t place = 0xFFFFFFFF;
+    uint32_t *words = (uint32_t *)(void *)lend(&the_list, 0, 4 * (size_t)many);
+    __builtin_memset(words, 0xA5, 4 * (size_t)many);
+    *out++ = pollencart_read_line(at, size, words, many, &place);
+    *out++ = (uint32_t)place;
+    return put(out, words, 4 * (size_t)many);
+}
+
+/* The answers to a line: check and its place, kind, fields 0 to 5, a field far out, what read gives into seven words, its number and place
+ * with five and whether those stayed, and whether the line stayed. */
 static uint32_t *line(const uint32_t *bytes, uint32_t size, uint32_t *out)
 {
     const uint8_t *at = lend(&the_bytes, bytes, size);
-    *out++ = pollencart_check(at, size);
+    size_t place = 0xFFFFFFFF;
+    *out++ = pollencart_check_line(at, size, &place);
+    *out++ = (uint32_t)place;
     *out++ = pollencart_kind(at, size);
     for (uint32_t i = 0; i < 6; i++)
         *out++ = pollencart_field(at, size, i);
     *out++ = pollencart_field(at, size, 0xFFFFFFFF);
+    out = values(at, size, 7, out);
+    uint32_t *few = out;
+    out = values(at, size, 5, out);
+    uint32_t stayed = 1;
+    for (uint32_t i = 2; i < 7; i++)
+        stayed = stayed && few[i] == 0xA5A5A5A5;
+    few[2] = stayed;
+    out = few + 3;
     *out++ = __builtin_memcmp(at, bytes, size) == 0;
     return out;
 }
@@ -124,14 +146,14 @@ static uint32_t *apply(uint32_t op, const uint32_t *bytes, uint32_t size, uint32
 {
     const uint8_t *at = lend(&the_bytes, bytes, size);
     uint32_t first = 0xFFFFFFFF, second = 0xFFFFFFFF;
-    size_t applied = (size_t)-1, refused = (size_t)-1, stopped = (size_t)-1;
+    size_t applied = (size_t)-1, refused = (size_t)-1, stopped = (size_t)-1, place = (size_t)-1;
     if (op == APPLY_LINE) {
-        *out++ = pollencart_line(table, length, at, size, &first, &second);
-        *out++ = first, *out++ = second;
+        *out++ = pollencart_apply_line(table, length, at, size, &first, &second, &place);
+        *out++ = first, *out++ = second, *out++ = (uint32_t)place;
     } else {
-        *out++ = pollencart_lines(table, length, at, size, &applied, &refused, &stopped);
-        *out++ = (uint32_t)applied, *out++ = (uint32_t)refused, *out++ = (uint32_t)stopped;
-        *out++ = (uint32_t)((applied | refused | stopped) >> 32);
+        *out++ = pollencart_apply_lines(table, length, at, size, &applied, &refused, &stopped, &place);
+        *out++ = (uint32_t)applied, *out++ = (uint32_t)refused, *out++ = (uint32_t)stopped, *out++ = (uint32_t)place;
+        *out++ = (uint32_t)((applied | refused | stopped | place) >> 32);
     }
     *out++ = __builtin_memcmp(at, bytes, size) == 0;
     return put(out, table, 4 * (size_t)length);

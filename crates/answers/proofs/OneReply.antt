@@ -9,6 +9,8 @@ use Rattle.answers.proofs.first_of.Kinds as first-kinds
 use Rattle.answers.proofs.first_of.Reads as first
 use Rattle.answers.proofs.second_of.Kinds as second-kinds
 use Rattle.answers.proofs.second_of.Reads as second
+use Rattle.answers.proofs.locate.Kinds as locate-kinds
+use Rattle.answers.proofs.locate.Reads as locate
 use Rattle.answers.proofs.store.Kinds as store-kinds
 use Rattle.answers.proofs.store.Reads as store
 
@@ -23,3 +25,6 @@ one-second κs a x y s s' p q = p ∙ sym q
 
 pub one-store : OneReply 2 store-kinds.ps store-kinds.r store.Post (λ κs x s. x ∷ now (s .1 .0) ∷ now (s .1 .1 .0) ∷ [])
 one-store κs a x y s s' p q = p ∙ sym q
+
+pub one-locate : OneReply 1 locate-kinds.ps locate-kinds.r locate.Post (λ κs x s. x ∷ now (s .1 .0) ∷ [])
+one-locate κs a x y s s' p q = p ∙ sym q

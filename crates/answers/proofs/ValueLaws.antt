@@ -5,10 +5,12 @@ use Prim.Native.Nat.{ℕ, _≤_}
 use lib.ListN.{getD, take}
 use Rattle.meaning.specs.declared.Reply.{Reply}
 use Rattle.meaning.specs.declared.Reply.the-variants.{Written, Carried, Purged, Refused}
+use Rattle.meaning.specs.declared.Answer.{Answer}
 use Rattle.meaning.specs.declared.Framed.{Framed}
 use Rattle.meaning.specs.declared.Framed.the-variants.{Length}
 use Rattle.meaning.specs.Frames.{framedValues}
 use Rattle.meaning.specs.Steps.{replyValues}
+use Rattle.meaning.specs.Lines.{answerValues}
 
 -- a writer's answer, handed on as a number and a length
 pub short : (a b : Framed) → a ≡ b → getD (framedValues b) 1 0 ≤ 27 → getD (framedValues a) 1 0 ≤ 27
@@ -33,6 +35,11 @@ all-told x y e a b c p q r = rw (p, q, r, e) (each y)
 pub told : (k : ℕ) (x y : Reply) → x ≡ y → (a b c : ℕ) → a ≡ getD (replyValues x) 0 0 → b ≡ getD (replyValues x) 1 0 → c ≡ getD (replyValues x) 2 0 →
     take k (a ∷ b ∷ c ∷ []) ≡ take k (replyValues y)
 told k x y e a b c p q r = ap (take k) (all-told x y e a b c p q r)
+
+-- a line's answer that is another: its reply's values and the place
+pub line-told : (x y : Answer) → x ≡ y → (a b c p : ℕ) → a ≡ getD (replyValues (x .reply)) 0 0 → b ≡ getD (replyValues (x .reply)) 1 0 →
+    c ≡ getD (replyValues (x .reply)) 2 0 → p ≡ x .place → (a ∷ b ∷ c ∷ p ∷ []) ≡ answerValues y
+line-told x y e a b c p q r s t = rw (q, r, s, t, e) (ap (λ (vs : List ℕ). vs ++ (y .place ∷ [])) (each (y .reply)))
 
 -- two lists told and two contents of what was lent, each pair the same
 pub both : {xs ys m us vs n : List ℕ} → xs ≡ m → ys ≡ m → us ≡ n → vs ≡ n → (xs ++ us) ≡ (ys ++ vs)

@@ -1,4 +1,4 @@
-// Answers taken apart for C: a reply's numbers, a count's, a writer's.
+// Answers taken apart for C: a reply's numbers, a count's, a writer's, a checked line's.
 ghost use mathlib.Core.Path.{_≡_};
 ghost use mathlib.Core.List.{[], _∷_};
 ghost use Prim.Native.Nat.{_≤_};
@@ -6,7 +6,9 @@ ghost use lib.ListN.{getD};
 ghost use Rattle.meaning.specs.Steps.{replyValues};
 ghost use Rattle.meaning.specs.Verdicts.{countValues};
 ghost use Rattle.meaning.specs.Frames.{framedValues};
+ghost use Rattle.answers.specs.Told.{faultValues};
 use meaning::Count;
+use meaning::Fault;
 use meaning::Framed;
 use meaning::Reply;
 
@@ -82,4 +84,12 @@ pub fn report(answer: Framed, length: &mut u32) -> u32
             refused
         }
     }
+}
+
+// A checked line's answer for C: the refusal number, 0 for none, and its place in the line through the reference, 0 for none.
+pub fn locate(answer: Fault, place: &mut usize) -> u32
+    ensures { λ r. ⌜ (r ∷ now (place .exit) ∷ []) ≡ faultValues answer ⌝ }
+{
+    *place = answer.place;
+    answer.number
 }

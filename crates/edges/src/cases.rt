@@ -42,7 +42,7 @@ fn apply(t: &mut [u32], frame: &[u8]) -> Reply {
             Reply::Written
         }
         Line::Act { step } => table::apply(t, step),
-        Line::Refused { number } => Reply::Refused { number },
+        Line::Refused { number, place: _ } => Reply::Refused { number },
     }
 }
 

@@ -10,6 +10,12 @@ pub(crate) fn field(label: &[u8], n: u32) {
     io::print_decimal(1, n as u64);
 }
 
+// A place after its label.
+pub(crate) fn place(label: &[u8], n: usize) {
+    io::write_all(1, label);
+    io::print_decimal(1, n as u64);
+}
+
 // A word of the table, 0 beyond its end.
 fn word(t: &[u32], at: usize) -> u32 {
     if at < t.len() { t[at] } else { 0 }
@@ -91,12 +97,18 @@ pub(crate) fn fresh(t: &mut [u32], name: &[u8], n: u32) {
     }
 }
 
-// The refusal number of a line, 0 for none.
-fn number_of(answer: Line) -> u32 {
+// A refusal, and its place in the line.
+pub(crate) fn refusal(number: u32, at: usize) {
+    field(b"refusal ", number);
+    place(b" at ", at);
+}
+
+// What a single line says: the refusal and its place, or none.
+fn said(answer: Line) {
     match answer {
-        Line::Begin { .. } => 0,
-        Line::Act { .. } => 0,
-        Line::Refused { number } => number,
+        Line::Begin { .. } => field(b"refusal ", 0),
+        Line::Act { .. } => field(b"refusal ", 0),
+        Line::Refused { number, place } => refusal(number, place),
     }
 }
 
@@ -104,6 +116,7 @@ fn number_of(answer: Line) -> u32 {
 pub(crate) fn frame(name: &[u8]) {
     io::write_all(1, b"line ");
     io::write_all(1, name);
-    field(b": refusal ", number_of(reading::read_line(name, 1)));
+    io::write_all(1, b": ");
+    said(reading::read_line(name, 1));
     io::write_all(1, b"\n");
 }

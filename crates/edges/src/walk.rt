@@ -4,12 +4,6 @@ use meaning::Framed;
 use meaning::Next;
 use meaning::Step;
 
-// A place after its label.
-fn place(label: &[u8], n: usize) {
-    io::write_all(1, label);
-    io::print_decimal(1, n as u64);
-}
-
 // The bytes begin with the part and an LF after it.
 fn is_frame(out: &[u8], part: &[u8]) -> bool {
     if out.len() <= part.len() {
@@ -29,7 +23,7 @@ fn is_frame(out: &[u8], part: &[u8]) -> bool {
 fn compared(out: &[u8], framed: Framed, part: &[u8]) {
     match framed {
         Framed::Length { bytes } => {
-            place(b", written back in ", bytes);
+            say::place(b", written back in ", bytes);
             if is_frame(out, part) {
                 io::write_all(1, b" bytes, alike");
             } else {
@@ -56,8 +50,8 @@ fn step(step: Step, part: &[u8]) {
 }
 
 // A refusal, and the line that is refused: the reader's part is empty then, the finder's is the line, or empty where no LF ends one.
-fn refused(s: &[u8], at: usize, number: u32) {
-    say::field(b"refusal ", number);
+fn refused(s: &[u8], at: usize, number: u32, place: usize) {
+    say::refusal(number, place);
     io::write_all(1, b" of '");
     io::write_all(1, journal::line(s, at));
     io::write_all(1, b"'");
@@ -68,7 +62,7 @@ fn answer(s: &[u8], at: usize, found: Next, part: &[u8]) {
     match found {
         Next::Begin { n, next: _ } => start(n, part),
         Next::Act { step: x, next: _ } => step(x, part),
-        Next::Refused { number } => refused(s, at, number),
+        Next::Refused { number, place } => refused(s, at, number, place),
         Next::End => {
             io::write_all(1, b"the end");
         }
@@ -79,9 +73,9 @@ fn answer(s: &[u8], at: usize, found: Next, part: &[u8]) {
 fn one(s: &[u8], at: usize, line: usize) -> usize {
     let part = reader::part_from(s, at, line);
     let to = reader::place_from(s, at, line);
-    place(b"line ", line);
-    place(b" at ", at);
-    place(b" to ", to);
+    say::place(b"line ", line);
+    say::place(b" at ", at);
+    say::place(b" to ", to);
     io::write_all(1, b": ");
     io::write_all(1, part);
     answer(s, at, reader::next_from(s, at, line), part);

@@ -1,16 +1,16 @@
--- Laws of what a byte, a field and the check with the LF leave at their place.
+-- Laws of what a frame's parts leave: digits, words or characters put one after the other, and the check.
 use mathlib.Core.Path.{_≡_, refl, sym, _∙_, ap}
 use mathlib.Core.List.{List, [], _∷_, _++_}
 use Prim.Native.Nat.{ℕ, _+_, _-_, _*_, _/_, _%_, _≤_, _<_}
 use native.Mathlib.Omega.{arith}
 use native.Mathlib.Numerals.{add-one}
-use native.Mathlib.Nat.{add-mod-mod, mod-add-mod}
-use lib.ListN.{length, set, length-set}
+use lib.ListN.{length, getD, set, take, drop, take-append-drop}
+use lib.Seq.{length-take-le, take-suc, take-all, take-at}
 use borrow.Author.Tests.{lt-ltb, le-ltb}
-use Rattle.meaning.specs.Table.{place}
-use Rattle.meaning.specs.Frames.{digit, spelled, highFirst, total}
-use Rattle.meaning.proofs.PlaceLaws.{length-place, place-append, place-comm, set-place, place-none}
-use Rattle.meaning.proofs.FrameLaws.{total-append, spelled-append, length-spelled, length-highFirst}
+use Rattle.meaning.specs.Table.{place, part}
+use Rattle.meaning.specs.Frames.{digit, spelled, highFirst, total, check, sealed}
+use Rattle.meaning.proofs.PlaceLaws.{length-place, place-append, place-part, set-place, place-none, place-all}
+use Rattle.meaning.proofs.FrameLaws.{total-append, total-below, spelled-append, length-spelled}
 
 -- a digit
 pub digit-low : (v : ℕ) → v ≤ 9 → 48 + v ≡ digit v
@@ -21,80 +21,106 @@ pub digit-high : (v : ℕ) → 9 < v → 55 + v ≡ digit v
 unfolding digit
 digit-high v h = cc (le-ltb v 10 h)
 
+-- one more entry after those that were put
+pub set-next : (t₀ t xs : List ℕ) (at next v : ℕ) → next ≡ at + length xs → next < length t₀ → t ≡ place at xs t₀ → set t next v ≡ place at (xs ++ (v ∷ [])) t₀
+set-next t₀ t xs at next v e h p =
+    let fit = length-place at xs t₀ (omega arith) in
+    rw p (set-place (place at xs t₀) next v (omega arith) ∙ place-append at next xs (v ∷ []) t₀ e (omega arith))
+
+-- the entries passed, and one more
+pub take-more : (l : List ℕ) (k : ℕ) → k < length l → take (k + 1) l ≡ take k l ++ (getD l k 0 ∷ [])
+take-more l k h = ap (λ (m : ℕ). take m l) (add-one k) ∙ take-suc l k 0 h
+
+pub put-none : (t l : List ℕ) → t ≡ place 0 (take 0 l) t
+put-none t l = sym (place-none 0 t)
+
+pub put-more : (t₀ t l : List ℕ) (k : ℕ) → k < length l → k < length t₀ → t ≡ place 0 (take k l) t₀ → set t k (getD l k 0) ≡ place 0 (take (k + 1) l) t₀
+put-more t₀ t l k h g p =
+    let long = length-take-le k l (omega arith) in
+    set-next t₀ t (take k l) 0 k (getD l k 0) (omega arith) g p ∙ ap (λ (r : List ℕ). place 0 r t₀) (sym (take-more l k h))
+
+pub put-last : (t₀ t l : List ℕ) (k n v : ℕ) → k ≡ n → n ≤ length l → n < length t₀ → t ≡ place 0 (take k l) t₀ → set t n v ≡ place 0 (take n l ++ (v ∷ [])) t₀
+put-last t₀ t l k n v e h g p =
+    let long = length-take-le n l h in
+    set-next t₀ t (take n l) 0 n v (omega arith) g (p ∙ ap (λ (m : ℕ). place 0 (take m l) t₀) e)
+
 -- two digits set are a byte put
 pub put-pair : (t : List ℕ) (at b x y : ℕ) → 2 * (at + 1) ≤ length t → x ≡ digit (b / 16) → y ≡ digit (b % 16)
     → set (set t (2 * at) x) (2 * at + 1) y ≡ place (2 * at) (spelled (b ∷ [])) t
 unfolding spelled
 put-pair t at b x y h p q =
     rw (p, q)
-    (set-place (set t (2 * at) (digit (b / 16))) (2 * at + 1) (digit (b % 16)) (omega (arith, length-set t (2 * at) (digit (b / 16)))) ∙
-    ap (place (2 * at + 1) (digit (b % 16) ∷ [])) (set-place t (2 * at) (digit (b / 16)) (omega arith)) ∙
-    place-append (2 * at) (2 * at + 1) (digit (b / 16) ∷ []) (digit (b % 16) ∷ []) t (omega arith) (omega arith))
+    (set-next t (set t (2 * at) (digit (b / 16))) (digit (b / 16) ∷ []) (2 * at) (2 * at + 1) (digit (b % 16)) (omega arith) (omega arith)
+    (set-place t (2 * at) (digit (b / 16)) (omega arith)))
 
--- the check byte put and the LF set
-pub put-last : (t t′ : List ℕ) (at b c : ℕ) → 2 * (at + 1) < length t → b ≡ c → t′ ≡ place (2 * at) (spelled (b ∷ [])) t
-    → set t′ (2 * at + 2) 10 ≡ place (2 * at) (spelled (c ∷ []) ++ (10 ∷ [])) t
-put-last t t′ at b c h e p =
-    let long = length-spelled (c ∷ []) in
-    let fit = length-place (2 * at) (spelled (c ∷ [])) t (omega arith) in
-    rw (p, e)
-    (set-place (place (2 * at) (spelled (c ∷ [])) t) (2 * at + 2) 10 (omega arith) ∙
-    place-append (2 * at) (2 * at + 2) (spelled (c ∷ [])) (10 ∷ []) t (omega arith) (omega arith))
+-- the digits of the bytes passed
+pub spell-none : (b d : List ℕ) → d ≡ place 0 (spelled (take 0 b)) d
+unfolding spelled
+spell-none b d = sym (place-none 0 d)
 
--- the wrapped negation
-pub negated : (r sum : ℕ) → r < 256 → sum < 256 → (r + sum) % 256 ≡ 0 → r ≡ (256 - sum) % 256
+pub spell-more : (b d₀ d d′ : List ℕ) (k : ℕ) → k < length b → length d₀ ≡ 2 * length b → d ≡ place 0 (spelled (take k b)) d₀
+    → d′ ≡ place (2 * k) (spelled (getD b k 0 ∷ [])) d → d′ ≡ place 0 (spelled (take (k + 1) b)) d₀
+spell-more b d₀ d d′ k h n p q =
+    let front : length (spelled (take k b)) ≡ 2 * k = length-spelled (take k b) ∙ ap (λ (m : ℕ). 2 * m) (length-take-le k b (omega arith)) in
+    let back : length (spelled (getD b k 0 ∷ [])) ≡ 2 = length-spelled (getD b k 0 ∷ []) in
+    q ∙ ap (place (2 * k) (spelled (getD b k 0 ∷ []))) p ∙
+    place-append 0 (2 * k) (spelled (take k b)) (spelled (getD b k 0 ∷ [])) d₀ (omega arith) (omega arith) ∙
+    ap (λ (r : List ℕ). place 0 r d₀) (sym (spelled-append (take k b) (getD b k 0 ∷ []))) ∙
+    ap (λ (r : List ℕ). place 0 (spelled r) d₀) (sym (take-more b k h))
+
+pub spell-all : (b d₀ d : List ℕ) (k : ℕ) → length b ≤ k → length d₀ ≡ 2 * length b → d ≡ place 0 (spelled (take k b)) d₀ → d ≡ spelled b
+spell-all b d₀ d k h n p =
+    p ∙ ap (λ (r : List ℕ). place 0 (spelled r) d₀) (take-all k b h) ∙ place-all (spelled b) d₀ (length-spelled b ∙ sym n)
+
+-- the first digits of some bytes are those of the first bytes, whatever stands behind them
+take-spelled : (bs : List ℕ) (n k : ℕ) → k ≡ 2 * n → n ≤ length bs → take k (spelled bs) ≡ spelled (take n bs)
+take-spelled bs n k e h =
+    let front : length (spelled (take n bs)) ≡ k = length-spelled (take n bs) ∙ ap (λ (m : ℕ). 2 * m) (length-take-le n bs h) ∙ sym e in
+    ap (λ (l : List ℕ). take k (spelled l)) (sym (take-append-drop n bs)) ∙ ap (λ (l : List ℕ). take k l) (spelled-append (take n bs) (drop n bs)) ∙
+    take-at (spelled (take n bs)) (spelled (drop n bs)) k front
+
+pub line-of : (out₀ out b d : List ℕ) (n k : ℕ) → k ≡ 2 * n → n ≤ length b → d ≡ spelled b → out ≡ place 0 (take k d ++ (10 ∷ [])) out₀
+    → out ≡ place 0 (spelled (take n b) ++ (10 ∷ [])) out₀
+line-of out₀ out b d n k e h p q =
+    q ∙ ap (λ (l : List ℕ). place 0 (l ++ (10 ∷ [])) out₀) (ap (λ (l : List ℕ). take k l) p ∙ take-spelled b n k e h)
+
+-- a word's bytes
+pub split-word : (t : List ℕ) (at x : ℕ) → at + 4 ≤ length t → x < 4294967296
+    → set (set (set (set t at (x / 16777216)) (at + 1) (x / 65536 % 256)) (at + 2) (x / 256 % 256)) (at + 3) (x % 256) ≡ place at (highFirst 4 x) t
+unfolding highFirst
+split-word t at x h w =
+    let y₀ = x / 256 / 256 / 256 % 256 in
+    let y₁ = x / 256 / 256 % 256 in
+    let y₂ = x / 256 % 256 in
+    let e₀ : x / 16777216 ≡ y₀ = omega arith in
+    let e₁ : x / 65536 % 256 ≡ y₁ = omega arith in
+    let s₀ = set-place t at y₀ (omega arith) in
+    let s₁ = set-next t (set t at y₀) (y₀ ∷ []) at (at + 1) y₁ (omega arith) (omega arith) s₀ in
+    let s₂ = set-next t (set (set t at y₀) (at + 1) y₁) (y₀ ∷ y₁ ∷ []) at (at + 2) y₂ (omega arith) (omega arith) s₁ in
+    rw (e₀, e₁)
+    (set-next t (set (set (set t at y₀) (at + 1) y₁) (at + 2) y₂) (y₀ ∷ y₁ ∷ y₂ ∷ []) at (at + 3) (x % 256) (omega arith) (omega arith) s₂)
+
+-- the sum of the bytes passed, and the check after them
+pub total-none : (b : List ℕ) → 0 ≡ total (take 0 b)
+unfolding total
+total-none b = refl
+
+pub total-more : (b : List ℕ) (k sum next : ℕ) → k < length b → sum ≡ total (take k b) → next ≡ (sum + getD b k 0) % 256 → next ≡ total (take (k + 1) b)
+unfolding total
+total-more b k sum next h p q =
+    let all = total-append (take k b) (getD b k 0 ∷ []) in
+    let last : next ≡ total (take k b ++ (getD b k 0 ∷ [])) = omega arith in
+    last ∙ ap total (sym (take-more b k h))
+
+negated : (r sum : ℕ) → r < 256 → sum < 256 → (r + sum) % 256 ≡ 0 → r ≡ (256 - sum) % 256
 negated r sum h g p = omega arith
 
--- a field is put from its last byte back: what is left to put
-pub put-more : (t t′ : List ℕ) (at k rest : ℕ) → 2 * (at + (k + 1)) ≤ length t → t′ ≡ place (2 * (at + k)) (spelled (rest % 256 ∷ [])) t
-    → place (2 * at) (spelled (highFirst (k + 1) rest)) t ≡ place (2 * at) (spelled (highFirst k (rest / 256))) t′
-unfolding highFirst
-put-more t t′ at k rest h e =
-    let one : highFirst (k + 1) rest ≡ highFirst k (rest / 256) ++ (rest % 256 ∷ []) = rw add-one refl in
-    let front = spelled (highFirst k (rest / 256)) in
-    let back = spelled (rest % 256 ∷ []) in
-    let n : length front ≡ 2 * k = length-spelled (highFirst k (rest / 256)) ∙ ap (λ (m : ℕ). 2 * m) (length-highFirst k (rest / 256)) in
-    let m : length back ≡ 2 = length-spelled (rest % 256 ∷ []) in
-    rw (one, spelled-append (highFirst k (rest / 256)) (rest % 256 ∷ []), e)
-    (sym (place-append (2 * at) (2 * (at + k)) front back t (omega arith) (omega arith)) ∙
-    place-comm (2 * (at + k)) (2 * at) back front t (omega arith) (omega arith) (omega arith))
-
--- a sum that wraps may wrap at every step
-wraps : (a b x t n : ℕ) → t ≡ (x + b) % 256 → n ≡ (a + b) % 256 → (a + t) % 256 ≡ (n + x) % 256
-wraps a b x t n p q =
-    let turn : a + (x + b) ≡ a + b + x = omega arith in
-    rw (p, q) (add-mod-mod a (x + b) 256 ∙ ap (λ (m : ℕ). m % 256) turn ∙ sym (mod-add-mod (a + b) 256 x))
-
-pub sum-more : (added next k rest : ℕ) → next ≡ (added + rest % 256) % 256
-    → (added + total (highFirst (k + 1) rest)) % 256 ≡ (next + total (highFirst k (rest / 256))) % 256
-unfolding highFirst total
-sum-more added next k rest e =
-    let one : highFirst (k + 1) rest ≡ highFirst k (rest / 256) ++ (rest % 256 ∷ []) = rw add-one refl in
-    let last : total (highFirst k (rest / 256) ++ (rest % 256 ∷ [])) ≡ (total (highFirst k (rest / 256)) + rest % 256) % 256
-    = omega (arith, total-append (highFirst k (rest / 256)) (rest % 256 ∷ [])) in
-    rw one (wraps added (rest % 256) (total (highFirst k (rest / 256))) (total (highFirst k (rest / 256) ++ (rest % 256 ∷ []))) next last e)
-
-pub put-none : (t : List ℕ) (at rest : ℕ) → place (2 * at) (spelled (highFirst 0 rest)) t ≡ t
-unfolding highFirst spelled
-put-none t at rest = place-none (2 * at) t
-
-pub sum-none : (added rest : ℕ) → added < 256 → (added + total (highFirst 0 rest)) % 256 ≡ added
-unfolding highFirst total
-sum-none added rest h = omega arith
-
--- a field's last byte is put: the invariant at k + 1 gives it at k
-pub put-turn : (t t′ whole : List ℕ) (at k k′ rest : ℕ) → k ≡ k′ + 1 → 2 * (at + k) ≤ length t
-    → place (2 * at) (spelled (highFirst k rest)) t ≡ whole → t′ ≡ place (2 * (at + k′)) (spelled (rest % 256 ∷ [])) t
-    → place (2 * at) (spelled (highFirst k′ (rest / 256))) t′ ≡ whole
-put-turn t t′ whole at k k′ rest e h p q =
-    sym (put-more t t′ at k′ rest (omega arith) q) ∙ rw e at p
-
-pub sum-turn : (added next k k′ rest sum : ℕ) → k ≡ k′ + 1 → (added + total (highFirst k rest)) % 256 ≡ sum → next ≡ (added + rest % 256) % 256
-    → (next + total (highFirst k′ (rest / 256))) % 256 ≡ sum
-sum-turn added next k k′ rest sum e p q = sym (sum-more added next k′ rest q) ∙ rw e at p
-
-pub put-end : (t whole : List ℕ) (at k rest : ℕ) → k ≡ 0 → place (2 * at) (spelled (highFirst k rest)) t ≡ whole → t ≡ whole
-put-end t whole at k rest e p = sym (put-none t at rest) ∙ rw e at p
-
-pub sum-end : (added k rest sum : ℕ) → k ≡ 0 → added < 256 → (added + total (highFirst k rest)) % 256 ≡ sum → added ≡ sum
-sum-end added k rest sum e h p = sym (sum-none added rest h) ∙ rw e at p
+pub seal-last : (b : List ℕ) (n k sum r : ℕ) → n < length b → k ≡ n → sum ≡ total (take k b) → r < 256 → (r + sum) % 256 ≡ 0
+    → set b n r ≡ place 0 (sealed (take n b)) b
+unfolding sealed check part
+seal-last b n k sum r h e p w q =
+    let sums : sum ≡ total (take n b) = p ∙ ap (λ (m : ℕ). total (take m b)) e in
+    let low = total-below (take n b) in
+    let c : r ≡ (256 - total (take n b)) % 256 = negated r (total (take n b)) w low (ap (λ (m : ℕ). (r + m) % 256) (sym sums) ∙ q) in
+    let long = length-take-le n b (omega arith) in
+    rw c (set-next b b (take n b) 0 n ((256 - total (take n b)) % 256) (omega arith) h (sym (place-part 0 n b (omega arith))))

@@ -1,1 +1,1 @@
-mod FieldLaws
+pub mod FieldLaws

@@ -1,22 +1,22 @@
-// A frame's parts written into lent bytes: a digit, a byte, a field, the check with the LF. Document 01, "Frames and journals".
+// A frame's parts: the digits of bytes, a word's bytes, the check byte, a line's characters with the LF. Document 01, "Frames and journals".
 // Inner functions: what they require, the frames' code shows.
 ghost use mathlib.Core.Path.{_≡_};
 ghost use mathlib.Core.List.{[], _∷_, _++_};
-ghost use Prim.Native.Nat.{_+_, _-_, _*_, _%_, _≤_, _<_};
-ghost use lib.ListN.{length};
+ghost use Prim.Native.Nat.{_+_, _*_, _≤_, _<_};
+ghost use lib.ListN.{length, take};
 ghost use Rattle.meaning.specs.Table.{place};
-ghost use Rattle.meaning.specs.Frames.{digit, spelled};
-ghost use Rattle.fields.specs.Puts.{Put};
+ghost use Rattle.meaning.specs.Frames.{digit, spelled, highFirst, sealed};
 
 // The digit of a number below 16: "uppercase hexadecimal".
 fn digit_of(v: u8) -> u8
     requires { ⌜ v < 16 ⌝ }
     ensures { λ r. ⌜ r ≡ digit v ⌝ }
 {
-    match v {
-        0..=9 => 48 + v,
-        _ => 55 + v,
-    }
+    let zero = match v {
+        0..=9 => 48,
+        _ => 55,
+    };
+    zero + v
 }
 
 // One byte at its place: "two digits a byte".
@@ -28,29 +28,63 @@ fn put_byte(out: &mut [u8], at: usize, b: u8)
     out[2 * at + 1] = digit_of(b % 16);
 }
 
-// A field at its place, high byte first, from its last byte back; the wrapped sum grows by its bytes.
-pub fn put(out: &mut [u8], at: usize, width: usize, value: u32, sum: u8) -> u8
-    requires { ⌜ 2 * (at + width) ≤ length (now out) ⌝ }
-    ensures { λ r. ⌜ Put (now (out .entry)) (now (out .exit)) at width value sum r ⌝ }
+// The digits of some bytes, all in one loop, so that it becomes vector code where the length is known.
+pub fn spell(b: &[u8], d: &mut [u8])
+    requires { ⌜ length (now d) ≡ 2 * length (now b) ⌝ }
+    ensures { λ _. ⌜ now (d .exit) ≡ spelled (now (b .entry)) ⌝ }
 {
-    let mut added = sum;
-    let mut rest = value;
-    let mut k = width;
-    while 0 < k {
-        k -= 1;
-        let b = (rest % 256) as u8;
-        put_byte(out, at + k, b);
-        added = std::num::wrapping_add_u8(added, b);
-        rest = rest / 256;
+    let mut k: usize = 0;
+    while k < b.len() {
+        put_byte(d, k, b[k]);
+        k += 1;
     }
-    added
 }
 
-// The check byte, which is the wrapped negation of the sum, and the LF.
-pub fn finish(out: &mut [u8], at: usize, sum: u8)
-    requires { ⌜ 2 * (at + 1) < length (now out) ⌝ }
-    ensures { λ _. ⌜ now (out .exit) ≡ place (2 * at) (spelled ((256 - sum) % 256 ∷ []) ++ (10 ∷ [])) (now (out .entry)) ⌝ }
+// A word's four bytes at their place: "Numbers are high byte first."
+pub fn split(b: &mut [u8], at: usize, x: u32)
+    requires { ⌜ at + 4 ≤ length (now b) ⌝ }
+    ensures { λ _. ⌜ now (b .exit) ≡ place at (highFirst 4 x) (now (b .entry)) ⌝ }
 {
-    put_byte(out, at, std::num::wrapping_sub_u8(0, sum));
-    out[2 * at + 2] = 10;
+    b[at] = (x / 16777216) as u8;
+    b[at + 1] = (x / 65536 % 256) as u8;
+    b[at + 2] = (x / 256 % 256) as u8;
+    b[at + 3] = (x % 256) as u8;
+}
+
+// The check byte after the first n, which is the wrapped negation of their sum.
+pub fn seal(b: &mut [u8], n: usize)
+    requires { ⌜ n < length (now b) ⌝ }
+    ensures { λ _. ⌜ now (b .exit) ≡ place 0 (sealed (take n (now (b .entry)))) (now (b .entry)) ⌝ }
+{
+    let mut sum: u8 = 0;
+    let mut k: usize = 0;
+    while k < n {
+        sum = std::num::wrapping_add_u8(sum, b[k]);
+        k += 1;
+    }
+    b[n] = std::num::wrapping_sub_u8(0, sum);
+}
+
+// The first n characters of a line from place 0, and the LF.
+pub fn put_line(out: &mut [u8], d: &[u8], n: usize)
+    requires { ⌜ (n ≤ length (now d)) × (n < length (now out)) ⌝ }
+    ensures { λ _. ⌜ now (out .exit) ≡ place 0 (take n (now (d .entry)) ++ (10 ∷ [])) (now (out .entry)) ⌝ }
+{
+    let mut k: usize = 0;
+    while k < n {
+        out[k] = d[k];
+        k += 1;
+    }
+    out[n] = 10;
+}
+
+// The frame of the first n of 24 bytes, the check among them. Their digits stand in an array of 48, more than a frame has: a loop of 12 or 13
+// turns would be unrolled before it could become vector code.
+pub fn put_frame(out: &mut [u8], b: &[u8], n: usize)
+    requires { ⌜ (length (now b) ≡ 24) × (n ≤ 24) × (2 * n < length (now out)) ⌝ }
+    ensures { λ _. ⌜ now (out .exit) ≡ place 0 (spelled (take n (now (b .entry))) ++ (10 ∷ [])) (now (out .entry)) ⌝ }
+{
+    let mut d = [0u8; 48];
+    spell(b, &mut d[..]);
+    put_line(out, &d[..], 2 * n);
 }

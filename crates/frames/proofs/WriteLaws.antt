@@ -1,95 +1,107 @@
--- Laws of fields put one after the other from place 0: they are the frame.
+-- Laws of bytes put one after the other from place 0: they are the frame's, and their digits the frame, whatever stands behind them.
 use mathlib.Core.Path.{_≡_, refl, sym, _∙_, ap}
-use mathlib.Core.List.{List, [], _∷_, _++_, append-assoc}
-use Prim.Native.Nat.{ℕ, _+_, _-_, _*_, _%_, _≤_, _<_}
+use mathlib.Core.List.{List, [], _∷_, _++_}
+use Prim.Native.Nat.{ℕ, _+_, _%_, _≤_, _<_}
 use native.Mathlib.Omega.{arith}
 use native.Mathlib.Nat.{mod-eq-of-lt}
-use lib.ListN.{length, length-append}
-use Rattle.meaning.specs.Table.{place}
+use lib.ListN.{length, set, take, length-append}
+use Rattle.meaning.specs.Table.{place, part}
 use Rattle.meaning.specs.declared.Action.the-variants.{Write, Session}
-use Rattle.meaning.specs.Frames.{spelled, highFirst, total, check, sealed, journalKinds, widthsIn, widths, packed, frameIn, frameOf, frame}
-use Rattle.fields.specs.Puts.{Put}
-use Rattle.meaning.proofs.PlaceLaws.{place-append, place-none}
-use Rattle.meaning.proofs.FrameLaws.{total-append, spelled-append, length-spelled, length-highFirst}
+use Rattle.meaning.specs.Frames.{spelled, highFirst, check, sealed, journalKinds, widthsIn, widths, packed, frameIn, frameOf, frame}
+use Rattle.meaning.proofs.PlaceLaws.{length-place, part-same, place-append, place-over, set-place}
+use Rattle.fields.proofs.FieldLaws.{set-next, line-of}
 
--- the bytes so far from place 0, with their sum
-record Sofar (t₀ t : List ℕ) (sum : ℕ) (bs : List ℕ) : Type 0 where
-  bytes : t ≡ place 0 (spelled bs) t₀
-  sums : sum ≡ total bs
+-- more bytes after those that were put
+place-next : (t₀ t t′ xs ys : List ℕ) (next : ℕ) → length xs ≡ next → next + length ys ≤ length t₀ → t ≡ place 0 xs t₀ → t′ ≡ place next ys t
+    → t′ ≡ place 0 (xs ++ ys) t₀
+place-next t₀ t t′ xs ys next e h p q = q ∙ ap (place next ys) p ∙ place-append 0 next xs ys t₀ (omega arith) h
 
-wrote-none : (t : List ℕ) → Sofar t t 0 []
-unfolding spelled total
-wrote-none t = record { bytes = sym (place-none 0 t); sums = refl }
+-- the bytes that were put are read again
+take-place : (t₀ t bs : List ℕ) (n : ℕ) → length bs ≡ n → n ≤ length t₀ → t ≡ place 0 bs t₀ → take n t ≡ bs
+unfolding part
+take-place t₀ t bs n e h p = ap (λ (l : List ℕ). take n l) p ∙ part-same 0 bs t₀ n (sym e) (omega arith)
 
-wrote-more : (t₀ t t′ bs : List ℕ) (at w v sum sum′ : ℕ) → length bs ≡ at → 2 * (at + w) ≤ length t₀ → Put t t′ at w v sum sum′ → Sofar t₀ t sum bs
-    → Sofar t₀ t′ sum′ (bs ++ highFirst w v)
-wrote-more t₀ t t′ bs at w v sum sum′ n h p so =
-    let front = length-spelled bs in
-    let back : length (spelled (highFirst w v)) ≡ 2 * w = length-spelled (highFirst w v) ∙ ap (λ (m : ℕ). 2 * m) (length-highFirst w v) in
-    let joined = place-append 0 (2 * at) (spelled bs) (spelled (highFirst w v)) t₀ (omega arith) (omega arith) in
-    record {
-      bytes = rw (p .1, so .bytes, spelled-append bs (highFirst w v)) joined;
-      sums = rw (p .0, so .sums) (sym (total-append bs (highFirst w v)));
-    }
+-- and sealed where they stand
+seal-over : (t₀ t t′ bs : List ℕ) (n : ℕ) → length bs ≡ n → n < length t₀ → t ≡ place 0 bs t₀ → t′ ≡ place 0 (sealed (take n t)) t
+    → t′ ≡ place 0 (sealed bs) t₀
+unfolding sealed
+seal-over t₀ t t′ bs n e h p q =
+    let long = length-append bs (check bs ∷ []) in
+    q ∙ ap (λ (l : List ℕ). place 0 (sealed l) t) (take-place t₀ t bs n e (omega arith) p) ∙ ap (place 0 (sealed bs)) p ∙
+    place-over 0 (sealed bs) bs t₀ (omega arith) (omega arith)
 
-wrote-all : (t₀ t t′ bs : List ℕ) (at sum : ℕ) → length bs ≡ at → 2 * (at + 1) < length t₀ → Sofar t₀ t sum bs
-    → t′ ≡ place (2 * at) (spelled ((256 - sum) % 256 ∷ []) ++ (10 ∷ [])) t → t′ ≡ place 0 (spelled (sealed bs) ++ (10 ∷ [])) t₀
-unfolding sealed check
-wrote-all t₀ t t′ bs at sum n h so p =
-    let last = spelled ((256 - total bs) % 256 ∷ []) ++ (10 ∷ []) in
-    let front = length-spelled bs in
-    let end = (256 - total bs) % 256 ∷ [] in
-    let back : length last ≡ 3 = length-append (spelled end) (10 ∷ []) ∙ ap (λ (m : ℕ). m + 1) (length-spelled end) in
-    let all : spelled (bs ++ end) ++ (10 ∷ []) ≡ spelled bs ++ last = rw (spelled-append bs end) (append-assoc (spelled bs) (spelled end) (10 ∷ [])) in
-    rw (p, so .bytes, so .sums, all) (place-append 0 (2 * at) (spelled bs) last t₀ (omega arith) (omega arith))
+-- their line
+line-put : (out₀ out b₀ b bs : List ℕ) (n : ℕ) → length bs ≡ n → n ≤ length b₀ → b ≡ place 0 bs b₀ → out ≡ place 0 (spelled (take n b) ++ (10 ∷ [])) out₀
+    → out ≡ place 0 (spelled bs ++ (10 ∷ [])) out₀
+line-put out₀ out b₀ b bs n e h p q = q ∙ ap (λ (l : List ℕ). place 0 (spelled l ++ (10 ∷ [])) out₀) (take-place b₀ b bs n e h p)
 
--- the frames, field after field
-frame-short : (kind n : ℕ) → widths kind ≡ 1 ∷ [] → kind < 256 → frameOf kind (n ∷ []) ≡ spelled (sealed (highFirst 1 kind ++ highFirst 1 n)) ++ (10 ∷ [])
+-- a frame of one byte
+frame-short : (kind n : ℕ) → widths kind ≡ 1 ∷ [] → n < 256 → frameOf kind (n ∷ []) ≡ spelled (sealed (kind ∷ n ∷ [])) ++ (10 ∷ [])
 unfolding frameIn packed highFirst
-frame-short kind n e k =
-    let small : kind % 256 ≡ kind = mod-eq-of-lt k in
+frame-short kind n e h =
+    let small : n % 256 ≡ n = mod-eq-of-lt h in
     rw (frameIn, e, small) refl
 
-pub put-short : (t₀ t₁ t₂ t₃ : List ℕ) (s₁ s₂ kind n : ℕ) → widths kind ≡ 1 ∷ [] → kind < 256 → 7 ≤ length t₀ → Put t₀ t₁ 0 1 kind 0 s₁ → Put t₁ t₂ 1 1 n s₁ s₂
-    → t₃ ≡ place 4 (spelled ((256 - s₂) % 256 ∷ []) ++ (10 ∷ [])) t₂ → t₃ ≡ place 0 (frameOf kind (n ∷ [])) t₀
-unfolding highFirst frameIn packed
-put-short t₀ t₁ t₂ t₃ s₁ s₂ kind n e k h p₁ p₂ q =
-    let w₁ = wrote-more t₀ t₀ t₁ [] 0 1 kind 0 s₁ refl (omega arith) p₁ (wrote-none t₀) in
-    let w₂ = wrote-more t₀ t₁ t₂ (highFirst 1 kind) 1 1 n s₁ s₂ refl (omega arith) p₂ w₁ in
-    wrote-all t₀ t₂ t₃ (highFirst 1 kind ++ highFirst 1 n) 2 s₂ refl (omega arith) w₂ q ∙ ap (λ (f : List ℕ). place 0 f t₀) (sym (frame-short kind n e k))
+pub put-short : (out₀ out b d : List ℕ) (kind n : ℕ) → widths kind ≡ 1 ∷ [] → n < 256 → b ≡ place 0 (sealed (kind ∷ n ∷ [])) (kind ∷ n ∷ 0 ∷ [])
+    → d ≡ spelled b → out ≡ place 0 (take 6 d ++ (10 ∷ [])) out₀ → out ≡ place 0 (frameOf kind (n ∷ [])) out₀
+unfolding sealed
+put-short out₀ out b d kind n e h p q r =
+    let long : length b ≡ 3 = ap length p ∙ length-place 0 (sealed (kind ∷ n ∷ [])) (kind ∷ n ∷ 0 ∷ []) (omega arith) in
+    line-put out₀ out (kind ∷ n ∷ 0 ∷ []) b (sealed (kind ∷ n ∷ [])) 3 refl (omega arith) p (line-of out₀ out b d 3 6 refl (omega arith) q r) ∙
+    ap (λ (f : List ℕ). place 0 f out₀) (sym (frame-short kind n e h))
 
-pub put-write : (t₀ t₁ t₂ t₃ t₄ t₅ t₆ : List ℕ) (s₁ s₂ s₃ s₄ s₅ p t b v : ℕ) → 25 ≤ length t₀ →
-    Put t₀ t₁ 0 1 1 0 s₁ → Put t₁ t₂ 1 1 p s₁ s₂ → Put t₂ t₃ 2 4 t s₂ s₃ → Put t₃ t₄ 6 4 b s₃ s₄ → Put t₄ t₅ 10 1 v s₄ s₅
-    → t₆ ≡ place 22 (spelled ((256 - s₅) % 256 ∷ []) ++ (10 ∷ [])) t₅ → t₆ ≡ place 0 (frame (Write p t b v)) t₀
-unfolding highFirst frame frameIn packed widthsIn journalKinds
-put-write t₀ t₁ t₂ t₃ t₄ t₅ t₆ s₁ s₂ s₃ s₄ s₅ p t b v h p₁ p₂ p₃ p₄ p₅ q =
-    let b₁ = [] ++ highFirst 1 1 in
-    let b₂ = b₁ ++ highFirst 1 p in
-    let b₃ = b₂ ++ highFirst 4 t in
-    let b₄ = b₃ ++ highFirst 4 b in
-    let b₅ = b₄ ++ highFirst 1 v in
-    let w₁ = wrote-more t₀ t₀ t₁ [] 0 1 1 0 s₁ refl (omega arith) p₁ (wrote-none t₀) in
-    let w₂ = wrote-more t₀ t₁ t₂ b₁ 1 1 p s₁ s₂ refl (omega arith) p₂ w₁ in
-    let w₃ = wrote-more t₀ t₂ t₃ b₂ 2 4 t s₂ s₃ refl (omega arith) p₃ w₂ in
-    let w₄ = wrote-more t₀ t₃ t₄ b₃ 6 4 b s₃ s₄ refl (omega arith) p₄ w₃ in
-    let w₅ = wrote-more t₀ t₄ t₅ b₄ 10 1 v s₄ s₅ refl (omega arith) p₅ w₄ in
-    wrote-all t₀ t₅ t₆ b₅ 11 s₅ refl (omega arith) w₅ q
+-- a write's bytes and frame
+abbrev writeBytes : ℕ → ℕ → ℕ → ℕ → List ℕ
+writeBytes p t b v = 1 ∷ packed (widths 1) (p ∷ t ∷ b ∷ v ∷ [])
 
-pub put-session : (t₀ t₁ t₂ t₃ t₄ t₅ t₆ t₇ : List ℕ) (s₁ s₂ s₃ s₄ s₅ s₆ a b ca cb o : ℕ) → 27 ≤ length t₀ →
-    Put t₀ t₁ 0 1 2 0 s₁ → Put t₁ t₂ 1 1 a s₁ s₂ → Put t₂ t₃ 2 1 b s₂ s₃ → Put t₃ t₄ 3 4 ca s₃ s₄ → Put t₄ t₅ 7 4 cb s₄ s₅ → Put t₅ t₆ 11 1 o s₅ s₆
-    → t₇ ≡ place 24 (spelled ((256 - s₆) % 256 ∷ []) ++ (10 ∷ [])) t₆ → t₇ ≡ place 0 (frame (Session a b ca cb o)) t₀
-unfolding highFirst frame frameIn packed widthsIn journalKinds
-put-session t₀ t₁ t₂ t₃ t₄ t₅ t₆ t₇ s₁ s₂ s₃ s₄ s₅ s₆ a b ca cb o h p₁ p₂ p₃ p₄ p₅ p₆ q =
-    let b₁ = [] ++ highFirst 1 2 in
-    let b₂ = b₁ ++ highFirst 1 a in
-    let b₃ = b₂ ++ highFirst 1 b in
-    let b₄ = b₃ ++ highFirst 4 ca in
-    let b₅ = b₄ ++ highFirst 4 cb in
-    let b₆ = b₅ ++ highFirst 1 o in
-    let w₁ = wrote-more t₀ t₀ t₁ [] 0 1 2 0 s₁ refl (omega arith) p₁ (wrote-none t₀) in
-    let w₂ = wrote-more t₀ t₁ t₂ b₁ 1 1 a s₁ s₂ refl (omega arith) p₂ w₁ in
-    let w₃ = wrote-more t₀ t₂ t₃ b₂ 2 1 b s₂ s₃ refl (omega arith) p₃ w₂ in
-    let w₄ = wrote-more t₀ t₃ t₄ b₃ 3 4 ca s₃ s₄ refl (omega arith) p₄ w₃ in
-    let w₅ = wrote-more t₀ t₄ t₅ b₄ 7 4 cb s₄ s₅ refl (omega arith) p₅ w₄ in
-    let w₆ = wrote-more t₀ t₅ t₆ b₅ 11 1 o s₅ s₆ refl (omega arith) p₆ w₅ in
-    wrote-all t₀ t₆ t₇ b₆ 12 s₆ refl (omega arith) w₆ q
+pub fill-write : (t₀ t₁ t₂ t₃ : List ℕ) (p t b v x y : ℕ) → 12 ≤ length t₀ → x ≡ p % 256 → y ≡ v % 256 → t₁ ≡ place 2 (highFirst 4 t) (set (set t₀ 0 1) 1 x)
+    → t₂ ≡ place 6 (highFirst 4 b) t₁ → t₃ ≡ place 0 (sealed (take 11 (set t₂ 10 y))) (set t₂ 10 y) → t₃ ≡ place 0 (sealed (writeBytes p t b v)) t₀
+unfolding highFirst packed widthsIn journalKinds
+fill-write t₀ t₁ t₂ t₃ p t b v x y h ex ey p₁ p₂ p₃ =
+    let b₁ : List ℕ = 1 ∷ x ∷ [] in
+    let b₂ = b₁ ++ highFirst 4 t in
+    let b₃ = b₂ ++ highFirst 4 b in
+    let w₀ = set-next t₀ (set t₀ 0 1) (1 ∷ []) 0 1 x refl (omega arith) (set-place t₀ 0 1 (omega arith)) in
+    let w₁ = place-next t₀ (set (set t₀ 0 1) 1 x) t₁ b₁ (highFirst 4 t) 2 refl (omega arith) w₀ p₁ in
+    let w₂ = place-next t₀ t₁ t₂ b₂ (highFirst 4 b) 6 refl (omega arith) w₁ p₂ in
+    let w₃ = set-next t₀ t₂ b₃ 0 10 y refl (omega arith) w₂ in
+    let all : b₃ ++ (y ∷ []) ≡ writeBytes p t b v = rw (ex, ey) refl in
+    seal-over t₀ (set t₂ 10 y) t₃ (b₃ ++ (y ∷ [])) 11 refl (omega arith) w₃ p₃ ∙ ap (λ (l : List ℕ). place 0 (sealed l) t₀) all
+
+length-write-bytes : (p t b v : ℕ) → length (sealed (writeBytes p t b v)) ≡ 12
+unfolding highFirst sealed packed widthsIn journalKinds
+length-write-bytes p t b v = refl
+
+pub put-write : (out₀ out b₀ b : List ℕ) (p t x v : ℕ) → 12 ≤ length b₀ → b ≡ place 0 (sealed (writeBytes p t x v)) b₀
+    → out ≡ place 0 (spelled (take 12 b) ++ (10 ∷ [])) out₀ → out ≡ place 0 (frame (Write p t x v)) out₀
+unfolding frame frameIn
+put-write out₀ out b₀ b p t x v h = line-put out₀ out b₀ b (sealed (writeBytes p t x v)) 12 (length-write-bytes p t x v) h
+
+-- a session's bytes and frame
+abbrev sessionBytes : ℕ → ℕ → ℕ → ℕ → ℕ → List ℕ
+sessionBytes a b ca cb o = 2 ∷ packed (widths 2) (a ∷ b ∷ ca ∷ cb ∷ o ∷ [])
+
+pub fill-session : (t₀ t₁ t₂ t₃ : List ℕ) (a b ca cb o x y z : ℕ) → 13 ≤ length t₀ → x ≡ a % 256 → y ≡ b % 256 → z ≡ o % 256
+    → t₁ ≡ place 3 (highFirst 4 ca) (set (set (set t₀ 0 2) 1 x) 2 y) → t₂ ≡ place 7 (highFirst 4 cb) t₁
+    → t₃ ≡ place 0 (sealed (take 12 (set t₂ 11 z))) (set t₂ 11 z) → t₃ ≡ place 0 (sealed (sessionBytes a b ca cb o)) t₀
+unfolding highFirst packed widthsIn journalKinds
+fill-session t₀ t₁ t₂ t₃ a b ca cb o x y z h ex ey ez p₁ p₂ p₃ =
+    let b₁ : List ℕ = 2 ∷ x ∷ y ∷ [] in
+    let b₂ = b₁ ++ highFirst 4 ca in
+    let b₃ = b₂ ++ highFirst 4 cb in
+    let v₀ = set-next t₀ (set t₀ 0 2) (2 ∷ []) 0 1 x refl (omega arith) (set-place t₀ 0 2 (omega arith)) in
+    let w₀ = set-next t₀ (set (set t₀ 0 2) 1 x) (2 ∷ x ∷ []) 0 2 y refl (omega arith) v₀ in
+    let w₁ = place-next t₀ (set (set (set t₀ 0 2) 1 x) 2 y) t₁ b₁ (highFirst 4 ca) 3 refl (omega arith) w₀ p₁ in
+    let w₂ = place-next t₀ t₁ t₂ b₂ (highFirst 4 cb) 7 refl (omega arith) w₁ p₂ in
+    let w₃ = set-next t₀ t₂ b₃ 0 11 z refl (omega arith) w₂ in
+    let all : b₃ ++ (z ∷ []) ≡ sessionBytes a b ca cb o = rw (ex, ey, ez) refl in
+    seal-over t₀ (set t₂ 11 z) t₃ (b₃ ++ (z ∷ [])) 12 refl (omega arith) w₃ p₃ ∙ ap (λ (l : List ℕ). place 0 (sealed l) t₀) all
+
+length-session-bytes : (a b ca cb o : ℕ) → length (sealed (sessionBytes a b ca cb o)) ≡ 13
+unfolding highFirst sealed packed widthsIn journalKinds
+length-session-bytes a b ca cb o = refl
+
+pub put-session : (out₀ out b₀ x : List ℕ) (a b ca cb o : ℕ) → 13 ≤ length b₀ → x ≡ place 0 (sealed (sessionBytes a b ca cb o)) b₀
+    → out ≡ place 0 (spelled (take 13 x) ++ (10 ∷ [])) out₀ → out ≡ place 0 (frame (Session a b ca cb o)) out₀
+unfolding frame frameIn
+put-session out₀ out b₀ x a b ca cb o h = line-put out₀ out b₀ x (sealed (sessionBytes a b ca cb o)) 13 (length-session-bytes a b ca cb o) h

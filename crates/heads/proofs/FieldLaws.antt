@@ -3,7 +3,6 @@ use mathlib.Core.Path.{_≡_, refl, _∙_, ap}
 use mathlib.Core.Bool.{true, false, not}
 use mathlib.Core.List.{List, [], _∷_}
 use Prim.Native.Nat.{ℕ, _+_}
-use native.Mathlib.Omega.{arith}
 use lib.ListN.{length, getD, drop}
 use lib.Seq.{drop-drop}
 use lib.Dec.{ltb}
@@ -26,7 +25,7 @@ use Rattle.meaning.specs.Frames.{
   startWrong,
 }
 use Rattle.meaning.proofs.FrameLaws.{kind-cases}
-use Rattle.digits.specs.Digits.{fieldAt, Within}
+use Rattle.digits.specs.Digits.{fieldAt}
 use Rattle.heads.specs.Heads.{Whole, writeAt, sessionAt, purgeAt}
 use Rattle.digits.proofs.DigitLaws.{first-byte}
 
@@ -74,19 +73,6 @@ rest-purge =
 
 pub whole-at : {l : List ℕ} {kind : ℕ} (k : ℕ) → Whole l kind → kind ≡ k → length l ≡ digitsOf k
 whole-at k w e = w .long ∙ ap digitsOf e
-
-pub whole-short : {l : List ℕ} {kind : ℕ} → Whole l kind → (kind ≡ 1 → ⊥) → (kind ≡ 2 → ⊥) → length l ≡ 6
-whole-short {kind = kind} w p q =
-    let six = kind-lengths (λ (k n : ℕ). (k ≡ 1 → ⊥) → (k ≡ 2 → ⊥) → n ≡ 6) (λ x y. refl) (λ x y. absurd (x refl)) (λ x y. absurd (y refl)) (λ x y. refl) in
-    w .long ∙ six kind (w .has-kind) p q
-
-pub start-in : {l : List ℕ} {kind : ℕ} → Whole l kind → kind ≡ 0 → Within l 1 1
-unfolding digitsIn widthsIn journalKinds
-start-in w e = record { digits = w .digits; room = omega (arith, whole-at 0 w e) }
-
-pub session-in : {l : List ℕ} {kind : ℕ} → Whole l kind → kind ≡ 2 → Within l 11 1
-unfolding digitsIn widthsIn journalKinds
-session-in w e = record { digits = w .digits; room = omega (arith, whole-at 2 w e) }
 
 -- the two tests of fields: a start's n, and a session's outcome
 module _ (l : List ℕ) (kind : ℕ) (is : lineKind (bytesOf l) ≡ kind) where

@@ -1,3 +1,5 @@
 pub mod FieldLaws
 pub mod HeadLaws
 pub mod OneReply
+pub mod QuickLaws
+pub mod SaidLaws

@@ -1,31 +1,31 @@
--- What the functions over a line's head answer: the digits that are due, the head of a line, and the actions by the places of their fields.
+-- What the functions over a line answer: whether it is accepted, what a short line holds, and the actions by the places of their fields.
 use mathlib.Core.Path.{_≡_}
-use mathlib.Core.Bool.{Bool, true, false, not, _&&_, cond}
+use mathlib.Core.Bool.{Bool, true, _&&_, _||_, cond}
 use mathlib.Core.List.{List}
-use Prim.Native.Nat.{ℕ}
+use Prim.Native.Nat.{ℕ, _+_, _*_}
 use lib.ListN.{length}
-use lib.Dec.{eqb}
+use lib.Dec.{leb, eqb}
 use Rattle.meaning.specs.declared.Action.{Action}
 use Rattle.meaning.specs.declared.Action.the-variants.{Write, Session, Purge}
 use Rattle.meaning.specs.Table.{countRight}
 use Rattle.meaning.specs.Frames.{bytesOf, allDigits, known, digitsOf, lineKind, lineRefusal}
-use Rattle.digits.specs.Digits.{addsUp, fieldAt}
+use Rattle.digits.specs.Digits.{fieldAt}
 
--- a line of 24 or 26 characters has only digits and its sum is zero; no other does
-unfoldable pub longSums : List ℕ → Bool
-longSums l = cond (eqb (length l) 24) (addsUp l) (cond (eqb (length l) 26) (addsUp l) false)
+-- whether a line is accepted
+unfoldable pub accepted : List ℕ → Bool
+accepted l = eqb (lineRefusal l) 0
 
--- the digits of a kind's lines, 0 for a kind that is unknown
-unfoldable pub dueOf : ℕ → ℕ
-dueOf kind = cond (known kind) (digitsOf kind) 0
+-- what an accepted line of six characters holds, 256 times its kind and its field; 1024 for any other line
+unfoldable pub shortOf : List ℕ → ℕ
+shortOf l = cond (accepted l) (256 * lineKind (bytesOf l) + fieldAt l 1 1) 1024
 
--- a line's head: its kind where it is accepted, else 255
-unfoldable pub headOf : List ℕ → ℕ
-headOf l = cond (eqb (lineRefusal l) 0) (lineKind (bytesOf l)) 255
+-- a purge, told by its kind's second character, may have any field, a start 2 to 16
+unfoldable pub mayHold : ℕ → ℕ → Bool
+mayHold c n = eqb c 51 || (eqb c 48 && countRight n)
 
--- the head of a line of six digits with the sum zero, by its first two bytes
-unfoldable pub shortHead : ℕ → ℕ → ℕ
-shortHead kind n = cond (eqb (dueOf kind) 6 && not (eqb kind 0 && not (countRight n))) kind 255
+-- two characters are an outcome's, 0 to 3
+unfoldable pub isOutcome : ℕ → ℕ → Bool
+isOutcome high low = eqb high 48 && (leb 48 low && leb low 51)
 
 -- a line of digits with the length of this kind
 pub record Whole (l : List ℕ) (kind : ℕ) : Type 0 where

@@ -41,5 +41,5 @@ agree s at line = go (nextAt s at line) refl
     go : (x : Next) → nextAt s at line ≡ x → Agree s at (handedBack x (lineAt s at)) (position at x)
     go (Begin n next) e = went s at next (begun (eqb at 0) s at line e)
     go (Act x next) e = went s at next (acted (eqb at 0) s at line e)
-    go (Refused k) e = stayed s at
+    go (Refused k p) e = stayed s at
     go End e = stayed s at

@@ -117,9 +117,9 @@ pub next-over : (first : Bool) (s : List ℕ) (at line : ℕ) → foundAt s at �
 unfolding nextIn
 next-over first s at line e = rw (over-facts s at e)
 
-pub next-unended : (first : Bool) (s : List ℕ) (at line : ℕ) → foundAt s at ≡ Unended → RefusedAt 14 ≡ nextIn first s at line
+pub next-unended : (first : Bool) (s : List ℕ) (at line : ℕ) → foundAt s at ≡ Unended → RefusedAt 14 (length s - at) ≡ nextIn first s at line
 unfolding nextIn
-next-unended first s at line e = rw (unended-facts s at e .0, unended-facts s at e .1)
+next-unended first s at line e = rw (unended-facts s at e .0, unended-facts s at e .1) (ap (RefusedAt 14) (sym (length-drop at s)))
 
 pub next-line : (first : Bool) (s : List ℕ) (at end line : ℕ) → foundAt s at ≡ Line end
     → inTurn first (end + 1) (readLine line (take (end - at) (drop at s))) ≡ nextIn first s at line
@@ -132,50 +132,51 @@ next-line first s at end line e =
 turn-goes : (first : Bool) (k : ℕ) (l : Said) → inTurn first k l ≡ End → _≡_ {A = ℕ} 0 1
 turn-goes true k (Begin n) e = cc
 turn-goes true k (Act x) e = cc
-turn-goes true k (Refused j) e = cc
+turn-goes true k (Refused j p) e = cc
 turn-goes false k (Begin n) e = cc
 turn-goes false k (Act x) e = cc
-turn-goes false k (Refused j) e = cc
+turn-goes false k (Refused j p) e = cc
 
-pub refused-inside : (first : Bool) (s : List ℕ) (at line : ℕ) {k : ℕ} → nextIn first s at line ≡ RefusedAt k → leb (length s) at ≡ false
+pub refused-inside : (first : Bool) (s : List ℕ) (at line : ℕ) {k p : ℕ} → nextIn first s at line ≡ RefusedAt k p → leb (length s) at ≡ false
 unfolding nextIn
-refused-inside first s at line {k} e = go (leb (length s) at) refl e
+refused-inside first s at line {k} {p} e = go (leb (length s) at) refl e
   where
     go : (a : Bool) → leb (length s) at ≡ a
-        → cond a End (cond (unended s at) (RefusedAt 14) (inTurn first (placeAfter s at) (readLine line (lineAt s at)))) ≡ RefusedAt k
+        → cond a End (cond (unended s at) (RefusedAt 14 (length (drop at s))) (inTurn first (placeAfter s at) (readLine line (lineAt s at)))) ≡ RefusedAt k p
         → leb (length s) at ≡ false
-    go true p r = never (cc)
-    go false p r = p
+    go true q r = never (cc)
+    go false q r = q
 
 pub end-over : (first : Bool) (s : List ℕ) (at line : ℕ) → nextIn first s at line ≡ End → leb (length s) at ≡ true
 unfolding nextIn
 end-over first s at line e = go (leb (length s) at) (unended s at) refl e
   where
     go : (a b : Bool) → leb (length s) at ≡ a
-        → cond a End (cond b (RefusedAt 14) (inTurn first (placeAfter s at) (readLine line (lineAt s at)))) ≡ End → leb (length s) at ≡ true
+        → cond a End (cond b (RefusedAt 14 (length (drop at s))) (inTurn first (placeAfter s at) (readLine line (lineAt s at)))) ≡ End
+        → leb (length s) at ≡ true
     go true b p r = p
     go false true p r = never (cc)
     go false false p r = never (turn-goes first (placeAfter s at) (readLine line (lineAt s at)) r)
 
 -- a refused line is refused in any turn
-pub turn-refused : (first : Bool) (k j : ℕ) → RefusedAt j ≡ inTurn first k (Refused j)
-turn-refused true k j = refl
-turn-refused false k j = refl
+pub turn-refused : (first : Bool) (k j p : ℕ) → RefusedAt j p ≡ inTurn first k (Refused j p)
+turn-refused true k j p = refl
+turn-refused false k j p = refl
 
 -- the reader goes on to the place after the line, if it does
 abbrev pub onTo : ℕ → Next → Bool
 onTo k (BeginAt n next) = eqb next k
 onTo k (ActAt x next) = eqb next k
-onTo k (RefusedAt j) = false
+onTo k (RefusedAt j p) = false
 onTo k End = false
 
 turn-on : (first : Bool) (k to : ℕ) (l : Said) → onTo to (inTurn first k l) ≡ true → k ≡ to
 turn-on true k to (Begin n) e = eqb-true k to e
 turn-on true k to (Act x) e = never (cc)
-turn-on true k to (Refused j) e = never (cc)
+turn-on true k to (Refused j p) e = never (cc)
 turn-on false k to (Begin n) e = never (cc)
 turn-on false k to (Act x) e = eqb-true k to e
-turn-on false k to (Refused j) e = never (cc)
+turn-on false k to (Refused j p) e = never (cc)
 
 -- the line before the place that the reader goes on to, and the LF that ends it
 pub record Passed (s : List ℕ) (at next : ℕ) : Type 0 where
@@ -204,7 +205,7 @@ unfolding nextIn placeAfter
 passed first s at line next x e on = go (leb (length s) at) (unended s at) refl refl e
   where
     go : (a b : Bool) → leb (length s) at ≡ a → unended s at ≡ b
-        → cond a End (cond b (RefusedAt 14) (inTurn first (placeAfter s at) (readLine line (lineAt s at)))) ≡ x → Passed s at next
+        → cond a End (cond b (RefusedAt 14 (length (drop at s))) (inTurn first (placeAfter s at) (readLine line (lineAt s at)))) ≡ x → Passed s at next
     go true b p q r = never (cc)
     go false true p q r = never (cc)
     go false false p q r =

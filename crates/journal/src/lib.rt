@@ -46,7 +46,7 @@ pub fn line(s: &[u8], at: usize) -> &[u8]
     }
 }
 
-// 15: "the first line is no start, a later line is one"
+// 15: "the first line is no start, a later line is one", place 0
 fn in_turn(first: bool, next: usize, said: Line) -> Next
     ensures { λ r. ⌜ r ≡ inTurn first next said ⌝ }
 {
@@ -55,17 +55,23 @@ fn in_turn(first: bool, next: usize, said: Line) -> Next
             if first {
                 Next::Begin { n, next }
             } else {
-                Next::Refused { number: 15 }
+                Next::Refused {
+                    number: 15,
+                    place: 0,
+                }
             }
         }
         Line::Act { step } => {
             if first {
-                Next::Refused { number: 15 }
+                Next::Refused {
+                    number: 15,
+                    place: 0,
+                }
             } else {
                 Next::Act { step, next }
             }
         }
-        Line::Refused { number } => Next::Refused { number },
+        Line::Refused { number, place } => Next::Refused { number, place },
     }
 }
 
@@ -77,13 +83,19 @@ pub fn said(line: &[u8], number: usize, first: bool, next: usize) -> Next
     in_turn(first, next, what)
 }
 
-// What the reader finds at a place, told the line number and whether the line there is the first.
+// What the reader finds at a place, told the line number and whether the line there is the first. 14 tells the length of what is left.
 pub fn next_in(s: &[u8], at: usize, line: usize, first: bool) -> Next
     ensures { λ r. ⌜ r ≡ nextIn first (now (s .entry)) at line ⌝ }
 {
     match find(s, at) {
         Found::Over => Next::End,
-        Found::Unended => Next::Refused { number: 14 },
+        Found::Unended => {
+            let left = s.len() - at;
+            Next::Refused {
+                number: 14,
+                place: left,
+            }
+        }
         Found::Line { end } => said(&s[at..end], line, first, end + 1),
     }
 }
@@ -102,7 +114,7 @@ pub fn part_at(s: &[u8], at: usize, line: usize) -> &[u8]
     match next_at(s, at, line) {
         Next::Begin { n: _, next } => &s[at..next - 1],
         Next::Act { step: _, next } => &s[at..next - 1],
-        Next::Refused { number: _ } => &s[at..at],
+        Next::Refused { .. } => &s[at..at],
         Next::End => {
             let end = s.len();
             &s[end..end]
@@ -117,7 +129,7 @@ pub fn position_at(s: &[u8], at: usize, line: usize) -> usize
     match next_at(s, at, line) {
         Next::Begin { n: _, next } => next,
         Next::Act { step: _, next } => next,
-        Next::Refused { number: _ } => at,
+        Next::Refused { .. } => at,
         Next::End => at,
     }
 }

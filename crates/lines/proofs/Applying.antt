@@ -2,7 +2,7 @@
 use mathlib.Core.Path.{_≡_, refl, sym, ap, _∙_}
 use mathlib.Core.Bool.{true, false}
 use mathlib.Core.List.{List, [], _∷_}
-use Prim.Native.Nat.{ℕ, zero, suc, _+_, _-_, _≤_, _<_}
+use Prim.Native.Nat.{ℕ, suc, _+_, _-_, _≤_, _<_}
 use native.Mathlib.Omega.{arith}
 use lib.ListN.{length}
 use denote.Enum.Declared.{variants}
@@ -12,23 +12,18 @@ use mir.Val.{Val}
 use Rattle.meaning.specs.declared.Action.{Action}
 use Rattle.meaning.specs.declared.Action.the-variants.{Write, Session, Purge}
 use Rattle.meaning.specs.declared.Step.{Step}
-use Rattle.meaning.specs.declared.Line.{Line}
-use Rattle.meaning.specs.declared.Line.the-variants.{Begin, Act, Refused}
-use Rattle.meaning.specs.declared.Reply.{Reply}
-use Rattle.meaning.specs.declared.Reply.the-variants.{Refused as RefusedWith}
-use Rattle.meaning.specs.declared.Next.{Next}
-use Rattle.meaning.specs.declared.Next.the-variants.{Begin as BeginAt, Act as ActAt, Refused as RefusedAt, End}
+use Rattle.meaning.specs.declared.Next.the-variants.{Act as ActAt, End}
 use Rattle.meaning.specs.declared.Progress.{Progress}
 use Rattle.meaning.specs.Table.{sound, Sound}
-use Rattle.meaning.specs.Steps.{refusal, reported, replied, reply, after}
-use Rattle.meaning.specs.Frames.{readLine}
-use Rattle.meaning.specs.Journals.{Steps, broken, step∷, oneIf, inTurn, nextIn, stepsFrom, afterAll, refusedOf}
-use Rattle.meaning.specs.Lines.{replyTo, leftBy, lineReply, lineAfter, progress, unread, linesReply, linesAfter}
+use Rattle.meaning.specs.Steps.{refusal, after}
+use Rattle.meaning.specs.Journals.{Steps, broken, step∷, oneIf, nextIn, stepsFrom, afterAll, refusedOf}
+use Rattle.meaning.specs.Lines.{progress, unread, linesReply, linesAfter}
 use Rattle.meaning.proofs.Action as A
 use Rattle.meaning.proofs.Action.Laws as A′
 use Rattle.meaning.proofs.StepLaws.{verdictOf}
 use Rattle.meaning.proofs.JournalLaws.{steps-act, steps-end}
-use Rattle.lines.specs.Applying.{refusedBy, Stepped, AppliedFrom, AppliedLines}
+use Rattle.turns.proofs.TurnLaws.{one-most, Taken}
+use Rattle.lines.specs.Applying.{Stepped, AppliedFrom, AppliedLines}
 
 -- an action's verdict is a byte
 verdict-in : (x : Action) → Fields (variants A.the-type) (spellss (A.the-type .parts) A′.the-laws) (A.the-type .to x) → verdictOf x ≤ 255
@@ -39,28 +34,10 @@ verdict-in (Purge p) f = omega arith
 pub verdict-fits : (x : Action) (vs : List Val) → Is A.the-row x vs → verdictOf x ≤ 255
 verdict-fits x vs p = verdict-in x (owed A.the-type A′.the-laws x vs p)
 
--- a refused step counts 1, and any other 0
-reported-none : (t : List ℕ) (x : Action) → refusedBy (reported t x) ≡ 0
-unfolding reported
-reported-none t (Write p c b v) = refl
-reported-none t (Session a b ca cb o) = refl
-reported-none t (Purge p) = refl
-
-pub refused-counts : (t : List ℕ) (x : Action) → refusedBy (reply t x) ≡ oneIf (refusal t x)
-unfolding reply
-refused-counts t x = go (refusal t x)
-  where
-    go : (k : ℕ) → refusedBy (replied k (reported t x)) ≡ oneIf k
-    go zero = reported-none t x
-    go (suc k) = refl
-
-pub one-most : (k : ℕ) → oneIf k ≤ 1
-one-most zero = omega arith
-one-most (suc k) = omega arith
-
 -- How far what is left comes, when so many steps are done, of which so many were refused
 unfoldable pub further : ℕ → ℕ → List ℕ → Steps → Progress
-further k r t x = record { steps = k + length (x .steps); refused = r + refusedOf t (x .steps); stop = x .stop; number = x .badNumber }
+further k r t x =
+    record { steps = k + length (x .steps); refused = r + refusedOf t (x .steps); stop = x .stop; number = x .badNumber; place = x .badPlace }
 
 further-none : (t : List ℕ) (x : Steps) → progress t x ≡ further 0 0 t x
 unfolding further
@@ -69,9 +46,10 @@ further-none t x =
     let b : 0 + refusedOf t (x .steps) ≡ refusedOf t (x .steps) = omega arith in
     rw (a, b)
 
-further-stop : (k r : ℕ) (t : List ℕ) (at line j : ℕ) → further k r t (broken at line j) ≡ record { steps = k; refused = r; stop = at; number = j }
+further-stop : (k r : ℕ) (t : List ℕ) (at line j p : ℕ)
+    → further k r t (broken at line j p) ≡ record { steps = k; refused = r; stop = at; number = j; place = p }
 unfolding further refusedOf
-further-stop k r t at line j =
+further-stop k r t at line j p =
     let a : k + 0 ≡ k = omega arith in
     let b : r + 0 ≡ r = omega arith in
     rw (a, b)
@@ -134,19 +112,19 @@ module _ {s : List ℕ} {from first : ℕ} {t₀ t : List ℕ} {at steps refused
         table = sym (x .table ∙ ap (λ (z : Steps). afterAll t (z .steps)) e);
       }
 
-  stopped : (l j : ℕ) → stepsFrom (length s - steps) s at (first + steps) ≡ broken at l j
-      → AppliedFrom s from first t₀ (record { steps = steps; refused = refused; stop = at; number = j }) t
-  stopped l j e =
-      let w = whole (broken at l j) e in
-      record { answer = sym (further-stop steps refused t at l j) ∙ w .answer; table = sym (after-none t) ∙ w .table }
+  stopped : (l j p : ℕ) → stepsFrom (length s - steps) s at (first + steps) ≡ broken at l j p
+      → AppliedFrom s from first t₀ (record { steps = steps; refused = refused; stop = at; number = j; place = p }) t
+  stopped l j p e =
+      let w = whole (broken at l j p) e in
+      record { answer = sym (further-stop steps refused t at l j p) ∙ w .answer; table = sym (after-none t) ∙ w .table }
 
-  pub reached-bad : {j : ℕ} → at < length s → stepsFrom (suc (length s - (steps + 1))) s at (first + steps) ≡ broken at (first + steps) j
-      → AppliedFrom s from first t₀ (record { steps = steps; refused = refused; stop = at; number = j }) t
-  reached-bad {j} h e = stopped (first + steps) j (left-is h e)
+  pub reached-bad : {j p : ℕ} → at < length s → stepsFrom (suc (length s - (steps + 1))) s at (first + steps) ≡ broken at (first + steps) j p
+      → AppliedFrom s from first t₀ (record { steps = steps; refused = refused; stop = at; number = j; place = p }) t
+  reached-bad {j} {p} h e = stopped (first + steps) j p (left-is h e)
 
   pub reached-end : nextIn false s at (first + steps) ≡ End
-      → AppliedFrom s from first t₀ (record { steps = steps; refused = refused; stop = at; number = 0 }) t
-  reached-end e = stopped 0 0 (steps-end (length s - steps) s at (first + steps) e)
+      → AppliedFrom s from first t₀ (record { steps = steps; refused = refused; stop = at; number = 0; place = 0 }) t
+  reached-end e = stopped 0 0 0 (steps-end (length s - steps) s at (first + steps) e)
 
   pub reached-step : {y : Step} {next k : ℕ} {t′ : List ℕ} → nextIn false s at (first + steps) ≡ ActAt y next → at < next → next ≤ length s
       → Stepped t (y .action) k t′ → Reached s from first t₀ t′ next (steps + 1) (refused + k)
@@ -164,27 +142,14 @@ module _ {s : List ℕ} {from first : ℕ} {t₀ t : List ℕ} {at steps refused
         table = rw l (sym (w .table) ∙ after-step t y (rest .steps) ∙ rw (d .leaves));
       }
 
--- one line, by what it says in its turn, which is never the first
-abbrev pub replyIn : List ℕ → Next → Reply
-replyIn t (BeginAt n next) = RefusedWith 15
-replyIn t (ActAt s next) = reply t (s .action)
-replyIn t (RefusedAt k) = RefusedWith k
-replyIn t End = RefusedWith 15
+  -- one line taken in a turn, and one left to the reader
+  pub reached-turn : {due told : ℕ} {t′ : List ℕ} → Taken s at due t told t′ → Reached s from first t₀ t′ (at + (due + 1)) (steps + 1) (refused + told)
+  reached-turn {due} {told} {t′} y =
+      reached-step (y .found (first + steps)) (omega arith) (omega (arith, y .room))
+      (record { counts = y .counts; leaves = y .leaves; isSound = y .isSound; one = rw (y .counts) (one-most (refusal t (y .action))) })
 
-abbrev pub leftIn : List ℕ → Next → List ℕ
-leftIn t (BeginAt n next) = t
-leftIn t (ActAt s next) = after t (s .action)
-leftIn t (RefusedAt k) = t
-leftIn t End = t
-
-turn-is : (t : List ℕ) (x : Line) → (replyIn t (inTurn false 0 x) ≡ replyTo t x) × (leftIn t (inTurn false 0 x) ≡ leftBy t x)
-turn-is t (Begin n) = (refl, refl)
-turn-is t (Act s) = (refl, refl)
-turn-is t (Refused k) = (refl, refl)
-
-pub line-is : (t l : List ℕ) {x : Next} → inTurn false 0 (readLine 1 l) ≡ x → (replyIn t x ≡ lineReply t l) × (leftIn t x ≡ lineAfter t l)
-unfolding lineReply lineAfter
-line-is t l e = (ap (replyIn t) (sym e) ∙ turn-is t (readLine 1 l) .0, ap (leftIn t) (sym e) ∙ turn-is t (readLine 1 l) .1)
+  pub reached-kept : {t′ : List ℕ} → t′ ≡ t → Reached s from first t₀ t′ at steps refused
+  reached-kept e = rw e x
 
 -- many lines, on a table that is not sound and on one that is
 pub lines-unsound : (t s : List ℕ) → sound t ≡ false → AppliedLines t s unread t

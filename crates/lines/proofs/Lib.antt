@@ -1,2 +1,3 @@
 pub mod Applying
 pub mod OneReply
+pub mod WordLaws

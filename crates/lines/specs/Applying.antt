@@ -4,20 +4,21 @@ use mathlib.Core.List.{List}
 use Prim.Native.Nat.{ℕ, _≤_}
 use lib.ListN.{length}
 use Rattle.meaning.specs.declared.Action.{Action}
-use Rattle.meaning.specs.declared.Reply.{Reply}
-use Rattle.meaning.specs.declared.Reply.the-variants.{Written, Carried, Purged, Refused}
+use Rattle.meaning.specs.declared.Reply.the-variants.{Refused}
+use Rattle.meaning.specs.declared.Answer.{Answer}
 use Rattle.meaning.specs.declared.Progress.{Progress}
 use Rattle.meaning.specs.Table.{Sound}
 use Rattle.meaning.specs.Steps.{refusal, after}
 use Rattle.meaning.specs.Journals.{oneIf, stepsFrom, afterAll}
 use Rattle.meaning.specs.Lines.{lineReply, lineAfter, progress, linesReply, linesAfter}
 
--- "a refused step is counted and passed over"
-abbrev pub refusedBy : Reply → ℕ
-refusedBy Written = 0
-refusedBy (Carried a b) = 0
-refusedBy (Purged k) = 0
-refusedBy (Refused k) = 1
+-- A line's refusal: the number, at its place in the line
+abbrev pub refusedLine : ℕ → ℕ → Answer
+refusedLine k p = record { reply = Refused k; place = p }
+
+-- How far lines were read: so many steps, those refused, where the reading stopped, and the refused line's number and place
+abbrev pub haltedAt : ℕ → ℕ → ℕ → ℕ → ℕ → Progress
+haltedAt steps refused stop number place = record { steps = steps; refused = refused; stop = stop; number = number; place = place }
 
 -- One step on a sound table: 1 where it is refused, else 0, and the table, which stays sound
 pub record Stepped (t : List ℕ) (x : Action) (k : ℕ) (t′ : List ℕ) : Type 0 where
@@ -32,7 +33,7 @@ pub record AppliedFrom (s : List ℕ) (from first : ℕ) (t : List ℕ) (r : Pro
   pub table : t′ ≡ afterAll t (stepsFrom (length s) s from first .steps)
 
 -- One line, and many
-abbrev pub AppliedLine : List ℕ → List ℕ → Reply → List ℕ → Type 0
+abbrev pub AppliedLine : List ℕ → List ℕ → Answer → List ℕ → Type 0
 AppliedLine t l r t′ = (r ≡ lineReply t l) × (t′ ≡ lineAfter t l)
 
 abbrev pub AppliedLines : List ℕ → List ℕ → Progress → List ℕ → Type 0

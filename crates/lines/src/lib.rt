@@ -4,62 +4,45 @@ ghost use mathlib.Core.Path.{_≡_};
 ghost use Prim.Native.Nat.{_+_, _≤_};
 ghost use lib.ListN.{length};
 ghost use Rattle.meaning.specs.Table.{Sound};
-ghost use Rattle.looks.specs.Applied.{Applied};
-ghost use Rattle.lines.specs.Applying.{refusedBy, Stepped, AppliedFrom, AppliedLine, AppliedLines};
-use meaning::Action;
+ghost use Rattle.lines.specs.Applying.{refusedLine, haltedAt, Stepped, AppliedFrom, AppliedLine, AppliedLines};
+use meaning::Answer;
 use meaning::Next;
 use meaning::Progress;
 use meaning::Reply;
 use meaning::Step;
+use turns::UNSURE;
+use turns::count;
+use turns::due_at;
+use turns::turn;
 
-// One action on any words, by its fields. `table::apply` does the same; `apply_from` alone calls what stands below that, so that it is compiled
-// into the loop.
-fn act(t: &mut [u32], action: Action) -> Reply
-    ensures { λ r. ⌜ Applied (now (t .entry)) action r (now (t .exit)) ⌝ }
+// A line's refusal, at its place
+fn refused(number: u32, place: usize) -> Answer
+    ensures { λ r. ⌜ r ≡ refusedLine number place ⌝ }
 {
-    match action {
-        Action::Write {
-            node,
-            timestamp,
-            block,
-            verdict,
-        } => table::act::write(t, node, timestamp, block, verdict),
-        Action::Session {
-            a,
-            b,
-            ca,
-            cb,
-            outcome,
-        } => table::act::session(t, a, b, ca, cb, outcome),
-        Action::Purge { node } => table::act::purge(t, node),
+    Answer {
+        reply: Reply::Refused { number },
+        place,
     }
 }
 
-// One line on any words: the line's refusal, 15 for a start, or what its step reports; a refusal changes no word.
-pub fn apply_line(t: &mut [u32], line: &[u8]) -> Reply
+// One line on any words: the line's refusal with its place, 15 for a start, or what its step reports; a refusal changes no word.
+pub fn apply_line(t: &mut [u32], line: &[u8]) -> Answer
     ensures { λ r. ⌜ AppliedLine (now (t .entry)) (now (line .entry)) r (now (t .exit)) ⌝ }
 {
-    match journal::said(line, 1, false, 0) {
-        Next::Begin { n: _, next: _ } => Reply::Refused { number: 15 },
-        Next::Act { step, next: _ } => {
-            let action = step.action;
-            act(t, action)
-        }
-        Next::Refused { number } => Reply::Refused { number },
-        Next::End => Reply::Refused { number: 15 },
+    let mut v = [0u32; 6];
+    let fault = words::read_words(line, &mut v[..]);
+    if fault.number != 0 {
+        return refused(fault.number, fault.place);
     }
-}
-
-// 1 for a refused step
-fn count(r: Reply) -> usize
-    ensures { λ k. ⌜ k ≡ refusedBy r ⌝ }
-{
-    match r {
-        Reply::Written => 0,
-        Reply::Carried { a: _, b: _ } => 0,
-        Reply::Purged { removed: _ } => 0,
-        Reply::Refused { number: _ } => 1,
+    if v[0] == 0 {
+        return refused(15, 0);
     }
+    let reply = match v[0] {
+        1 => table::act::write(t, v[1] as u8, v[2], v[3], v[4] as u8),
+        2 => table::act::session(t, v[1] as u8, v[2] as u8, v[3], v[4], v[5] as u8),
+        _ => table::act::purge(t, v[1] as u8),
+    };
+    Answer { reply, place: 0 }
 }
 
 // One step on a sound table, which it leaves sound: whether it was refused.
@@ -72,7 +55,21 @@ fn step(t: &mut [u32], x: Step) -> usize
     count(r)
 }
 
-// The steps from a place on, up to the end or the first refused line, on a sound table; `first` is the number of the line there.
+// How far the lines were read.
+fn halted(steps: usize, refused: usize, stop: usize, number: u32, place: usize) -> Progress
+    ensures { λ r. ⌜ r ≡ haltedAt steps refused stop number place ⌝ }
+{
+    Progress {
+        steps,
+        refused,
+        stop,
+        number,
+        place,
+    }
+}
+
+// The steps from a place on, up to the end or the first refused line, on a sound table; `first` is the number of the line there. A line that is told
+// at once to be a step is taken in one turn; the reader of lines answers for any other.
 pub fn apply_from(s: &[u8], from: usize, first: usize, t: &mut [u32]) -> Progress
     requires { ⌜ Sound (now t) × (first ≤ from + 1) × (from ≤ length (now s)) ⌝ }
     ensures { λ r. ⌜ AppliedFrom (now (s .entry)) from first (now (t .entry)) r (now (t .exit)) ⌝ }
@@ -81,35 +78,28 @@ pub fn apply_from(s: &[u8], from: usize, first: usize, t: &mut [u32]) -> Progres
     let mut refused = 0;
     let mut stop = from;
     loop {
+        let due = due_at(s, stop);
+        let told = turn(s, stop, due, t);
+        if told < UNSURE {
+            steps += 1;
+            refused += told;
+            stop += due + 1;
+            continue;
+        }
         match journal::next_in(s, stop, first + steps, false) {
             Next::Begin { n: _, next: _ } => {
-                return Progress {
-                    steps,
-                    refused,
-                    stop,
-                    number: 15,
-                };
+                return halted(steps, refused, stop, 15, 0);
             }
             Next::Act { step: x, next } => {
                 steps += 1;
                 refused += step(t, x);
                 stop = next;
             }
-            Next::Refused { number } => {
-                return Progress {
-                    steps,
-                    refused,
-                    stop,
-                    number,
-                };
+            Next::Refused { number, place } => {
+                return halted(steps, refused, stop, number, place);
             }
             Next::End => {
-                return Progress {
-                    steps,
-                    refused,
-                    stop,
-                    number: 0,
-                };
+                return halted(steps, refused, stop, 0, 0);
             }
         }
     }
@@ -125,6 +115,7 @@ pub fn apply_lines(t: &mut [u32], s: &[u8]) -> Progress
             refused: 0,
             stop: 0,
             number: 1,
+            place: 0,
         };
     }
     apply_from(s, 0, 1, t)

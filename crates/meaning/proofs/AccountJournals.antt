@@ -13,7 +13,7 @@ use Rattle.meaning.specs.declared.Line.the-variants.{Begin, Act, Refused
 use Rattle.meaning.specs.declared.Next.{Next}
 use Rattle.meaning.specs.declared.Next.the-variants.{Begin as BeginAt, Act as ActAt, Refused as RefusedAt, End}
 use Rattle.meaning.specs.Table.{nodesMost, countRight, fresh}
-use Rattle.meaning.specs.Frames.{bytesOf, lineKind, lineFields, lineRefusal, meant, lineIs, readLine}
+use Rattle.meaning.specs.Frames.{bytesOf, lineKind, lineFields, lineRefusal, linePlace, meant, lineIs, readLine}
 use Rattle.meaning.specs.Journals.{unended, lineAt, placeAfter, inTurn, nextIn, nextAt, journal, startedFrom, afterAll, replayAfter}
 use Rattle.meaning.specs.Account.{events, run}
 use Rattle.meaning.proofs.FrameLaws.{good}
@@ -25,36 +25,36 @@ use Rattle.meaning.proofs.Demand3.{NothingLost, demand3}
 abbrev lineRight : Line → Bool
 lineRight (Begin n) = countRight n
 lineRight (Act s) = true
-lineRight (Refused k) = true
+lineRight (Refused k p) = true
 
 meant-right : (line : ℕ) (bs : List ℕ) (b : Bool) → b && not (countRight (getD (lineFields bs) 0 0)) ≡ false → lineRight (meant line bs b) ≡ true
 meant-right line bs true h = not-false (countRight (getD (lineFields bs) 0 0)) h
 meant-right line bs false h = refl
 
-lineIs-right : (k : ℕ) (x : Line) → (k ≡ 0 → lineRight x ≡ true) → lineRight (lineIs k x) ≡ true
-lineIs-right zero x h = h refl
-lineIs-right (suc k) x h = refl
+lineIs-right : (k p : ℕ) (x : Line) → (k ≡ 0 → lineRight x ≡ true) → lineRight (lineIs k p x) ≡ true
+lineIs-right zero p x h = h refl
+lineIs-right (suc k) p x h = refl
 
 line-right : (line : ℕ) (l : List ℕ) → lineRight (readLine line l) ≡ true
 unfolding readLine
 line-right line l =
     let bs = bytesOf l in
     let start = eqb (lineKind bs) 0 in
-    lineIs-right (lineRefusal l) (meant line bs start) (λ h. meant-right line bs start (good l h .start))
+    lineIs-right (lineRefusal l) (linePlace l) (meant line bs start) (λ h. meant-right line bs start (good l h .start))
 
 abbrev nextRight : Next → Bool
 nextRight (BeginAt n next) = countRight n
 nextRight (ActAt s next) = true
-nextRight (RefusedAt k) = true
+nextRight (RefusedAt k p) = true
 nextRight End = true
 
 inTurn-right : (first : Bool) (next : ℕ) (x : Line) → lineRight x ≡ true → nextRight (inTurn first next x) ≡ true
 inTurn-right true next (Begin n) h = h
 inTurn-right true next (Act s) h = refl
-inTurn-right true next (Refused k) h = refl
+inTurn-right true next (Refused k p) h = refl
 inTurn-right false next (Begin n) h = refl
 inTurn-right false next (Act s) h = refl
-inTurn-right false next (Refused k) h = refl
+inTurn-right false next (Refused k p) h = refl
 
 cond-right : (b : Bool) (x y : Next) → nextRight x ≡ true → nextRight y ≡ true → nextRight (cond b x y) ≡ true
 cond-right true x y p q = p
@@ -64,7 +64,7 @@ next-right : (first : Bool) (s : List ℕ) (at line : ℕ) → nextRight (nextIn
 unfolding nextIn
 next-right first s at line =
     cond-right (leb (length s) at) End _ refl
-    (cond-right (unended s at) (RefusedAt 14) _ refl
+    (cond-right (unended s at) (RefusedAt 14 _) _ refl
     (inTurn-right first (placeAfter s at) (readLine line (lineAt s at)) (line-right line (lineAt s at))))
 
 pub begin-right : (first : Bool) (s : List ℕ) (at line : ℕ) {n next : ℕ} → nextIn first s at line ≡ BeginAt n next → countRight n ≡ true
@@ -75,7 +75,7 @@ journal-right-at : (s : List ℕ) (x : Next) → nextAt s 0 1 ≡ x → nextRigh
 unfolding journal
 journal-right-at s (BeginAt n next) e h = rw (e, journal) (inr h)
 journal-right-at s (ActAt x next) e h = rw (e, journal) (inl refl)
-journal-right-at s (RefusedAt k) e h = rw (e, journal) (inl refl)
+journal-right-at s (RefusedAt k p) e h = rw (e, journal) (inl refl)
 journal-right-at s End e h = rw (e, journal) (inl refl)
 
 pub journal-right : (s : List ℕ) → (journal s .n ≡ 0) ⊎ (countRight (journal s .n) ≡ true)

@@ -1,4 +1,4 @@
--- Both sides of each edge: the cases that document 01 marks ★, as one table that is computed. A row has a name, what the definitions
+-- Both sides of each edge: the cases that document 01 marks ★, and the places of T-01, as one table that is computed. A row has a name, what the definitions
 -- compute and what is expected, and holds by computation; where one does not, the checker says `Holds "its name" ..` of the first that fails. The
 -- theorem `edges` is the whole table at once. Each step runs on a real table of 4,625 words: its row shows the refusal, both counts, and place
 -- and new value of every word that changed, so that no other word did.
@@ -11,7 +11,8 @@ use lib.Dec.{T, ltb, eqb, eqb→eq}
 use Rattle.meaning.specs.declared.Action.{Action}
 use Rattle.meaning.specs.declared.Action.the-variants.{Write, Session, Purge}
 use Rattle.meaning.specs.declared.Reply.the-variants.{Refused}
-use Rattle.meaning.specs.Refusals.{first}
+use Rattle.meaning.specs.declared.Outcome.the-variants.{Refused as Unread}
+use Rattle.meaning.specs.Refusals.{first, firstPlace}
 use Rattle.meaning.specs.Rows.{ascii, every, keep, least, raise, covers, newer, above, recordAt, records, words}
 use Rattle.meaning.specs.Table.{
   summaryAt,
@@ -39,12 +40,14 @@ use Rattle.meaning.specs.Frames.{
   spelled,
   bytesOf,
   allDigits,
+  strayAt,
   total,
   check,
   journalKinds,
   knownIn,
   widthsIn,
   digitsIn,
+  fieldPlaceIn,
   highFirst,
   number,
   packed,
@@ -59,6 +62,7 @@ use Rattle.meaning.specs.Frames.{
   fieldTests,
   lineTests,
   lineRefusal,
+  linePlace,
   readLine,
   lineValues,
 }
@@ -168,16 +172,20 @@ verdict v = countValues (verdictCount (0 ∷ 1 ∷ 16 ∷ v ∷ []))
 line : String → List ℕ
 line s = lineValues (readLine 1 (ascii s))
 
-example : List ℕ
-example = ascii "0002FE\n0100000000050000001010DA\n020001000000060000000403F0\n020001000000070000000701EE\n0300FD\n020001000000080000000803EA\n0300FD\n"
+-- what the program prints of a journal
+replays : String → List ℕ
+replays s = printed (replayed (ascii s)) (replayAfter [] (ascii s))
+
+example : String
+example = "0002FE\n0100000000050000001010DA\n020001000000060000000403F0\n020001000000070000000701EE\n0300FD\n020001000000080000000803EA\n0300FD\n"
 
 pub rows : List Row
-unfolding every keep least raise covers newer above recordAt records words part place count held node lay pieces putNode fresh recordSound
-    logSound sound own wrote opened finished purged refusals refusal limit acted reported reply after digit
-    digitValue spelled bytesOf allDigits total check journalKinds knownIn widthsIn digitsIn highFirst number packed unpacked actionOf sealed
-    frameIn frame startFrame lineKind fieldsIn first fieldTests lineTests lineRefusal readLine untilLF hasLF unended lineAt placeAfter nextIn
-    stepsFrom journal afterAll refusedOf replayed replayAfter decimalIn decimal spaced said nodeLine nodeLines printed classOf scrubbed touched
-    counted countRefusal verdictCount changes does refused reached verdict line example same Holds
+unfolding every keep least raise covers newer above recordAt records words part place count held node lay pieces putNode fresh recordSound logSound
+    sound own wrote opened finished purged refusals refusal limit acted reported reply after digit digitValue spelled bytesOf allDigits strayAt total
+    check journalKinds knownIn widthsIn digitsIn fieldPlaceIn highFirst number packed unpacked actionOf sealed frameIn frame startFrame lineKind
+    fieldsIn first firstPlace fieldTests lineTests lineRefusal linePlace readLine untilLF hasLF unended lineAt placeAfter nextIn stepsFrom journal
+    afterAll refusedOf replayed replayAfter decimalIn decimal spaced said nodeLine nodeLines printed classOf scrubbed touched counted countRefusal
+    verdictCount changes does refused reached verdict line replays example same Holds
 rows =
     row "write at 0" (does two (Write 0 0 16 0x20)) (refused 5) tt ∷
     row "write at 1" (does two (Write 0 1 16 0x20)) (0 ∷ 0 ∷ 0 ∷ 1 ∷ 1 ∷ 513 ∷ 1 ∷ 530 ∷ 1 ∷ 531 ∷ 16 ∷ 532 ∷ 0x20 ∷ []) tt ∷
@@ -217,12 +225,49 @@ rows =
     row "the first purge of document 01's journal removes nothing" (does early (Purge 0)) (0 ∷ 0 ∷ 0 ∷ []) tt ∷
     row "a table that is not sound, whatever the step" (does (place 0 (17 ∷ []) two) (Session 9 9 0 0 4)) (refused 1) tt ∷
     row "purging an empty log" (does two (Purge 0)) (0 ∷ 0 ∷ 0 ∷ []) tt ∷
-    row "0002FE" (line "0002FE") (0 ∷ 0 ∷ 2 ∷ []) tt ∷
-    row "0002FF" (line "0002FF") (13 ∷ []) tt ∷
-    row "0002fe" (line "0002fe") (12 ∷ []) tt ∷
-    row "an empty line" (line "") (11 ∷ []) tt ∷
-    row "a write's line" (line "0100000000050000001010DA") (0 ∷ 1 ∷ 0 ∷ 5 ∷ 16 ∷ 16 ∷ []) tt ∷
-    row "its frame" (frame (Write 0 5 16 16)) (ascii "0100000000050000001010DA\n") tt ∷
+    row "0002FE" (line "0002FE") (0 ∷ 0 ∷ 0 ∷ 2 ∷ []) tt ∷
+    row "0002FF" (line "0002FF") (13 ∷ 4 ∷ []) tt ∷
+    row "0002fe" (line "0002fe") (12 ∷ 4 ∷ []) tt ∷
+    row "an empty line" (line "") (18 ∷ 0 ∷ []) tt ∷
+    row "000" (line "000") (18 ∷ 3 ∷ []) tt ∷
+    row "a lower-case digit first" (line "a002FE") (12 ∷ 0 ∷ []) tt ∷
+    row "a lower-case digit in the middle" (line "00a2FE") (12 ∷ 2 ∷ []) tt ∷
+    row "a lower-case digit last" (line "0002Fe") (12 ∷ 5 ∷ []) tt ∷
+    row "a stray character before an odd number of digits" (line "030g0") (12 ∷ 3 ∷ []) tt ∷
+    row "a slash, the character before 0" (line "0/02FE") (12 ∷ 1 ∷ []) tt ∷
+    row "a colon, the character after 9" (line "0:02FE") (12 ∷ 1 ∷ []) tt ∷
+    row "an at sign, the character before A" (line "0002@E") (12 ∷ 4 ∷ []) tt ∷
+    row "G, the character after F" (line "0002GE") (12 ∷ 4 ∷ []) tt ∷
+    row "an LF" (line "0002FE\n") (12 ∷ 6 ∷ []) tt ∷
+    row "4 digits of a purge" (line "0300") (19 ∷ 4 ∷ []) tt ∷
+    row "5 digits of a purge" (line "0300F") (18 ∷ 5 ∷ []) tt ∷
+    row "6 digits of a purge" (line "0300FD") (0 ∷ 0 ∷ 3 ∷ 0 ∷ []) tt ∷
+    row "7 digits of a purge" (line "0300FD0") (18 ∷ 7 ∷ []) tt ∷
+    row "8 digits of a purge" (line "0300FD00") (19 ∷ 6 ∷ []) tt ∷
+    row "22 digits of a write" (line "0100000000050000001010") (19 ∷ 22 ∷ []) tt ∷
+    row "23 digits of a write" (line "0100000000050000001010D") (18 ∷ 23 ∷ []) tt ∷
+    row "24 digits of a write" (line "0100000000050000001010DA") (0 ∷ 0 ∷ 1 ∷ 0 ∷ 5 ∷ 16 ∷ 16 ∷ []) tt ∷
+    row "25 digits of a write" (line "0100000000050000001010DA0") (18 ∷ 25 ∷ []) tt ∷
+    row "26 digits of a write" (line "0100000000050000001010DA00") (19 ∷ 24 ∷ []) tt ∷
+    row "24 digits of a session" (line "020001000000060000000403") (19 ∷ 24 ∷ []) tt ∷
+    row "outcome 3" (line "020001000000060000000403F0") (0 ∷ 0 ∷ 2 ∷ 0 ∷ 1 ∷ 6 ∷ 4 ∷ 3 ∷ []) tt ∷
+    row "28 digits of a session" (line "020001000000060000000403F000") (19 ∷ 26 ∷ []) tt ∷
+    row "outcome 4" (line "020001000000060000000404EF") (20 ∷ 22 ∷ []) tt ∷
+    row "outcome 4 and a wrong sum" (line "020001000000060000000404F0") (20 ∷ 22 ∷ []) tt ∷
+    row "outcome 3 and a wrong sum" (line "020001000000060000000403F1") (13 ∷ 24 ∷ []) tt ∷
+    row "outcome 4 and two digits too many" (line "020001000000060000000404EF00") (19 ∷ 26 ∷ []) tt ∷
+    row "a wrong sum of a write" (line "0100000000050000001010DB") (13 ∷ 22 ∷ []) tt ∷
+    row "a wrong sum of a purge" (line "0300FE") (13 ∷ 4 ∷ []) tt ∷
+    row "kind 04" (line "0400FC") (11 ∷ 0 ∷ []) tt ∷
+    row "kind 04 and a wrong sum" (line "0400FD") (11 ∷ 0 ∷ []) tt ∷
+    row "kind 04, four digits" (line "04FC") (11 ∷ 0 ∷ []) tt ∷
+    row "kind FF, two digits" (line "FF") (11 ∷ 0 ∷ []) tt ∷
+    row "kind 04, five digits" (line "0400F") (18 ∷ 5 ∷ []) tt ∷
+    row "a start of 1" (line "0001FF") (15 ∷ 0 ∷ []) tt ∷
+    row "a start of 1 and a wrong sum" (line "0001FE") (13 ∷ 4 ∷ []) tt ∷
+    row "a start of 16" (line "0010F0") (0 ∷ 0 ∷ 0 ∷ 16 ∷ []) tt ∷
+    row "a start of 17" (line "0011EF") (15 ∷ 0 ∷ []) tt ∷
+    row "a write's frame" (frame (Write 0 5 16 16)) (ascii "0100000000050000001010DA\n") tt ∷
     row "a session's frame" (frame (Session 0 1 6 4 3)) (ascii "020001000000060000000403F0\n") tt ∷
     row "a purge's frame" (frame (Purge 0)) (ascii "0300FD\n") tt ∷
     row "verdict 0F" (verdict 0x0f) (0 ∷ 0 ∷ 0 ∷ []) tt ∷
@@ -233,8 +278,18 @@ rows =
     row "verdict 3F" (verdict 0x3f) (0 ∷ 1 ∷ 1 ∷ []) tt ∷
     row "verdict 4F" (verdict 0x4f) (0 ∷ 1 ∷ 1 ∷ []) tt ∷
     row "verdict 50" (verdict 0x50) (0 ∷ 0 ∷ 0 ∷ []) tt ∷
-    row "document 01's journal, printed" (printed (replayed example) (replayAfter [] example))
+    row "document 01's journal, printed" (replays example)
     (ascii "N 2 STEPS 6 REFUSED 0\n0 S 8 8 K 7 6 L 0\n1 S 8 8 K 7 6 L 1\n") tt ∷
+    row "an empty journal" (replays "") (ascii "BAD 1 15 0\n") tt ∷
+    row "bytes without LF" (replays "0002FE") (ascii "BAD 1 14 6\n") tt ∷
+    row "a second line without LF" (replays "0002FE\n0300F") (ascii "BAD 2 14 5\n") tt ∷
+    row "a stray character without LF" (replays "0002fe") (ascii "BAD 1 14 6\n") tt ∷
+    row "the first line is no start" (replays "0300FD\n") (ascii "BAD 1 15 0\n") tt ∷
+    row "the first line is no start and its sum is wrong" (replays "0300FE\n") (ascii "BAD 1 13 4\n") tt ∷
+    row "a later line is a start" (replays "0002FE\n0002FE\n") (ascii "BAD 2 15 0\n") tt ∷
+    row "a wrong sum in the third line" (replays "0002FE\n0300FD\n0300FE\n") (ascii "BAD 3 13 4\n") tt ∷
+    row "an empty line in a journal" (replays "0002FE\n\n") (ascii "BAD 2 18 0\n") tt ∷
+    row "a journal that is too long" (printed (Unread 16) []) (ascii "BAD 0 16\n") tt ∷
     []
 
 same-eq : (xs ys : List ℕ) → T (same xs ys) → xs ≡ ys

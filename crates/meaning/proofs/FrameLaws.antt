@@ -2,24 +2,26 @@
 use mathlib.Core.Path.{_≡_, refl, sym, _∙_, ap}
 use mathlib.Core.Bool.{Bool, true, false, not, _&&_, _||_, cond, true≢false}
 use mathlib.Core.List.{List, [], _∷_, _++_}
-use Prim.Native.Nat.{ℕ, zero, suc, _+_, _-_, _*_, _/_, _%_, _^_, _≤_, _<_}
+use Prim.Native.Nat.{ℕ, zero, suc, _+_, _-_, _*_, _/_, _%_, _^_, _≤_, _<_, min}
 use native.Mathlib.Omega.{arith}
 use native.Mathlib.Numerals.{add-one}
 use native.Mathlib.Nat.{pow-suc, mul-assoc, mul-le-mul-right}
 use lib.ListN.{length, getD, take, drop, length-append}
 use lib.Dec.{leb, ltb, eqb}
-use borrow.Author.Tests.{ltb-true, lt-ltb, le-ltb, le-leb, lt-leb, leb-true, eqb-true, eq-eqb, ne-eqb, not-true, not-false}
+use borrow.Author.Tests.{ltb-true, ltb-false, lt-ltb, le-ltb, le-leb, lt-leb, leb-true, eqb-true, eq-eqb, ne-eqb, not-true, not-false}
 use Rattle.meaning.specs.declared.Line.the-variants.{Begin, Act, Refused}
 use Rattle.meaning.specs.declared.Action.{Action}
 use Rattle.meaning.specs.declared.Action.the-variants.{Write, Session, Purge}
 use Rattle.meaning.specs.declared.Framed.the-variants.{Length, Refused as Unframed}
-use Rattle.meaning.specs.Refusals.{Test, test, first}
+use Rattle.meaning.specs.Refusals.{Test, test, testAt, first, firstPlace}
 use Rattle.meaning.specs.Table.{countRight, place}
+use Rattle.meaning.specs.Rows.{unless}
 use Rattle.meaning.specs.Steps.{outcomeAbove}
 use Rattle.meaning.specs.Frames.{
   digitValue,
   bytesOf,
   allDigits,
+  strayAt,
   total,
   number,
   Kind,
@@ -29,6 +31,8 @@ use Rattle.meaning.specs.Frames.{
   widthsIn,
   digitsIn,
   digitsOf,
+  fieldPlaceIn,
+  fieldPlace,
   actionOf,
   lineKind,
   lineFields,
@@ -37,6 +41,8 @@ use Rattle.meaning.specs.Frames.{
   fieldTests,
   lineTests,
   lineRefusal,
+  linePlace,
+  lineFault,
   readLine,
   spelled,
   highFirst,
@@ -58,9 +64,26 @@ use Rattle.meaning.specs.Frames.{
   meant,
   framedValues,
   framed,
+  wordsTests,
+  wordsFault,
+  sixValues,
+  wordsAfter,
 }
 use Rattle.meaning.proofs.RowLaws.{and-left, and-right}
-use Rattle.meaning.proofs.RefusalLaws.{none, numbered, first-given, first-passed, none-first}
+use Rattle.meaning.proofs.RefusalLaws.{
+  none,
+  numbered,
+  Gives,
+  given-at,
+  passed-at,
+  first-given,
+  first-passed,
+  given-before,
+  given-after,
+  first-none,
+  none-first,
+  place-none,
+}
 
 -- a digit's number, and 16 for any other character
 pub digit-decimal : (c : ℕ) → 48 ≤ c → c ≤ 57 → digitValue c ≡ c - 48
@@ -197,63 +220,160 @@ kind-cases P a b c d (suc (suc (suc (suc k)))) h =
     let f : true ≡ false = cc (h, ne-eqb n 0 (omega arith), ne-eqb n 1 (omega arith), ne-eqb n 2 (omega arith), ne-eqb n 3 (omega arith)) in
     absurd (true≢false f)
 
--- the refusals of a line in their order
+-- the first character that is no digit: one of the line's, none before it, and it is none; the length where all are digits
+pub stray-within : (l : List ℕ) → allDigits l ≡ false → strayAt l < length l
+unfolding allDigits strayAt
+stray-within [] h = absurd (true≢false h)
+stray-within (c ∷ cs) h = go (ltb (digitValue c) 16) h (stray-within cs)
+  where
+    go : (b : Bool) → b && allDigits cs ≡ false → (allDigits cs ≡ false → strayAt cs < length cs) → cond b (suc (strayAt cs)) 0 < length (c ∷ cs)
+    go true p ih = let r = ih p in omega arith
+    go false p ih = omega arith
+
+pub stray-before : (l : List ℕ) → allDigits (take (strayAt l) l) ≡ true
+unfolding allDigits strayAt
+stray-before [] = refl
+stray-before (c ∷ cs) = go (ltb (digitValue c) 16) refl (stray-before cs)
+  where
+    go : (b : Bool) → ltb (digitValue c) 16 ≡ b → allDigits (take (strayAt cs) cs) ≡ true → allDigits (take (cond b (suc (strayAt cs)) 0) (c ∷ cs)) ≡ true
+    go true e ih = cc
+    go false e ih = refl
+
+pub stray-there : (l : List ℕ) → allDigits l ≡ false → 16 ≤ digitValue (getD l (strayAt l) 0)
+unfolding allDigits strayAt
+stray-there [] h = absurd (true≢false h)
+stray-there (c ∷ cs) h = go (ltb (digitValue c) 16) refl h (stray-there cs)
+  where
+    go : (b : Bool) → ltb (digitValue c) 16 ≡ b → b && allDigits cs ≡ false → (allDigits cs ≡ false → 16 ≤ digitValue (getD cs (strayAt cs) 0))
+        → 16 ≤ digitValue (getD (c ∷ cs) (cond b (suc (strayAt cs)) 0) 0)
+    go true e p ih = ih p
+    go false e p ih = ltb-false (digitValue c) 16 e
+
+-- what a loop over the line finds, by place; and whether all are digits, by what it found
+pub stray-here : (l : List ℕ) (i : ℕ) → i < length l → ((j : ℕ) → j < i → digitValue (getD l j 0) < 16) → 16 ≤ digitValue (getD l i 0) → strayAt l ≡ i
+unfolding strayAt
+stray-here [] i h d p = absurd (omega arith)
+stray-here (c ∷ cs) zero h d p = cc (le-ltb (digitValue c) 16 p)
+stray-here (c ∷ cs) (suc i) h d p =
+    cc (lt-ltb (digitValue c) 16 (d 0 (omega arith)), stray-here cs i (omega arith) (λ j q. d (suc j) (omega arith)) p)
+
+pub stray-none : (l : List ℕ) → allDigits l ≡ true → strayAt l ≡ length l
+unfolding allDigits strayAt
+stray-none [] d = refl
+stray-none (c ∷ cs) d =
+    let here = and-left (ltb (digitValue c) 16) (allDigits cs) d in
+    cc (here, stray-none cs (and-right (ltb (digitValue c) 16) (allDigits cs) d))
+
+pub stray-some : (l : List ℕ) → strayAt l < length l → allDigits l ≡ false
+stray-some l h = go (allDigits l) refl
+  where
+    go : (b : Bool) → allDigits l ≡ b → b ≡ false
+    go true d = absurd (omega (arith, stray-none l d))
+    go false d = refl
+
+pub stray-past : (l : List ℕ) → length l ≤ strayAt l → allDigits l ≡ true
+stray-past l h = go (allDigits l) refl
+  where
+    go : (b : Bool) → allDigits l ≡ b → b ≡ true
+    go true d = refl
+    go false d = absurd (omega (arith, stray-within l d))
+
+-- the number and the place of a line's refusal
+abbrev pub Refuses : List ℕ → ℕ → ℕ → Type 0
+Refuses l k p = (lineRefusal l ≡ k) × (linePlace l ≡ p)
+
+-- the refusals of a line in their order, each with its place
 module _ (l : List ℕ) where
-  pub refused-stray : allDigits l ≡ false → lineRefusal l ≡ 12
-  unfolding lineRefusal lineTests first
-  refused-stray p = cc
+  pub refused-stray : allDigits l ≡ false → Refuses l 12 (strayAt l)
+  unfolding lineRefusal linePlace lineTests first firstPlace
+  refused-stray p = (cc, cc)
 
   module _ (d : allDigits l ≡ true) where
-    pub refused-odd : length l % 2 ≡ 1 → lineRefusal l ≡ 11
-    unfolding lineRefusal lineTests first
-    refused-odd p = cc (eq-eqb (length l % 2) 1 p)
+    pub refused-odd : length l % 2 ≡ 1 → Refuses l 18 (length l)
+    unfolding lineRefusal linePlace lineTests first firstPlace
+    refused-odd p = let odd = eq-eqb (length l % 2) 1 p in (cc, cc)
 
-    pub refused-none : length l ≡ 0 → lineRefusal l ≡ 11
-    unfolding lineRefusal lineTests first
-    refused-none p = cc
+    pub refused-none : length l ≡ 0 → Refuses l 18 (length l)
+    unfolding lineRefusal linePlace lineTests first firstPlace
+    refused-none p = (cc, cc)
 
     module _ (even : length l % 2 ≡ 0) (some : 0 < length l) where
-      pub refused-unknown : known (lineKind (bytesOf l)) ≡ false → lineRefusal l ≡ 11
-      unfolding lineRefusal lineTests first
-      refused-unknown p = cc (ne-eqb (length l % 2) 1 (omega arith), ne-eqb (length l) 0 (omega arith))
+      pub refused-unknown : known (lineKind (bytesOf l)) ≡ false → Refuses l 11 0
+      unfolding lineRefusal linePlace lineTests first firstPlace
+      refused-unknown p =
+          let not-odd = ne-eqb (length l % 2) 1 (omega arith) in
+          let not-none = ne-eqb (length l) 0 (omega arith) in
+          (cc, cc)
 
-      pub refused-length : known (lineKind (bytesOf l)) ≡ true → (length l ≡ digitsOf (lineKind (bytesOf l)) → ⊥) → lineRefusal l ≡ 11
-      unfolding lineRefusal lineTests first
+      pub refused-length : known (lineKind (bytesOf l)) ≡ true → (length l ≡ digitsOf (lineKind (bytesOf l)) → ⊥)
+          → Refuses l 19 (min (length l) (digitsOf (lineKind (bytesOf l))))
+      unfolding lineRefusal linePlace lineTests first firstPlace
       refused-length p h =
-          cc (ne-eqb (length l % 2) 1 (omega arith), ne-eqb (length l) 0 (omega arith), ne-eqb (length l) (digitsOf (lineKind (bytesOf l))) h)
+          let not-odd = ne-eqb (length l % 2) 1 (omega arith) in
+          let not-none = ne-eqb (length l) 0 (omega arith) in
+          let other = ne-eqb (length l) (digitsOf (lineKind (bytesOf l))) h in
+          (cc, cc)
 
     -- what is left to ask of a line of digits that has its kind's length
-    pub refusal-whole : known (lineKind (bytesOf l)) ≡ true → length l ≡ digitsOf (lineKind (bytesOf l)) → lineRefusal l ≡ first (fieldTests (bytesOf l))
-    unfolding lineRefusal lineTests first
+    pub refusal-whole : known (lineKind (bytesOf l)) ≡ true → length l ≡ digitsOf (lineKind (bytesOf l))
+        → Refuses l (first (fieldTests l)) (firstPlace (fieldTests l))
+    unfolding lineRefusal linePlace lineTests first firstPlace
     refusal-whole p long =
         let even = digits-even journalKinds (lineKind (bytesOf l)) in
         let even′ : (length l % 2 ≡ 1 → ⊥) = rw long (omega arith) in
-        cc (ne-eqb (length l % 2) 1 even′, ne-eqb (length l) 0 (omega arith), eq-eqb (length l) (digitsOf (lineKind (bytesOf l))) long)
+        let not-odd = ne-eqb (length l % 2) 1 even′ in
+        let not-none = ne-eqb (length l) 0 (omega arith) in
+        let due = eq-eqb (length l) (digitsOf (lineKind (bytesOf l))) long in
+        (cc, cc)
+
+-- the outcome byte's first digit
+pub outcome-place : fieldPlace 2 4 ≡ 22
+unfolding fieldPlaceIn widthsIn journalKinds
+outcome-place = refl
 
 -- a journal's line that is whole: the outcome, the sum, a start's n
-module _ (bs : List ℕ) where
-  pub given-outcome : outcomeHigh bs ≡ true → first (fieldTests bs) ≡ 11
+module _ (l : List ℕ) where
+  pub given-outcome : outcomeHigh (bytesOf l) ≡ true → Gives (fieldTests l) 20 22
   unfolding fieldTests
-  given-outcome p = first-given 11 (outcomeHigh bs) _ p
+  given-outcome p =
+      let here = given-at 20 (fieldPlace 2 4) (outcomeHigh (bytesOf l)) _ p in
+      (here .0, here .1 ∙ outcome-place)
 
-  module _ (p : outcomeHigh bs ≡ false) where
-    after-outcome : first (fieldTests bs) ≡ first (test 13 (not (eqb (total bs) 0)) ∷ test 15 (startWrong bs) ∷ [])
-    unfolding fieldTests
-    after-outcome = first-passed 11 (outcomeHigh bs) (test 13 (not (eqb (total bs) 0)) ∷ test 15 (startWrong bs) ∷ []) p
+  module _ (p : outcomeHigh (bytesOf l) ≡ false) where
+    sum-tests : List Test
+    sum-tests = testAt 13 (length l - 2) (not (eqb (total (bytesOf l)) 0)) ∷ testAt 15 0 (startWrong (bytesOf l)) ∷ []
 
-    pub given-sum : (total bs ≡ 0 → ⊥) → first (fieldTests bs) ≡ 13
-    given-sum h = after-outcome ∙ first-given 13 (not (eqb (total bs) 0)) _ (ap not (ne-eqb (total bs) 0 h))
+    after-outcome : Gives (fieldTests l) (first sum-tests) (firstPlace sum-tests)
+    unfolding fieldTests sum-tests
+    after-outcome = passed-at 20 (fieldPlace 2 4) (outcomeHigh (bytesOf l)) _ p
 
-    module _ (z : total bs ≡ 0) where
-      after-sum : first (fieldTests bs) ≡ first (test 15 (startWrong bs) ∷ [])
-      after-sum = after-outcome ∙ first-passed 13 (not (eqb (total bs) 0)) _ (ap not (eq-eqb (total bs) 0 z))
+    pub given-sum : (total (bytesOf l) ≡ 0 → ⊥) → Gives (fieldTests l) 13 (length l - 2)
+    unfolding sum-tests
+    given-sum h =
+        let here = given-at 13 (length l - 2) (not (eqb (total (bytesOf l)) 0)) _ (ap not (ne-eqb (total (bytesOf l)) 0 h)) in
+        (after-outcome .0 ∙ here .0, after-outcome .1 ∙ here .1)
 
-      pub given-start : startWrong bs ≡ true → first (fieldTests bs) ≡ 15
-      given-start h = after-sum ∙ first-given 15 (startWrong bs) _ h
+    module _ (z : total (bytesOf l) ≡ 0) where
+      start-tests : List Test
+      start-tests = testAt 15 0 (startWrong (bytesOf l)) ∷ []
 
-      pub given-none : startWrong bs ≡ false → first (fieldTests bs) ≡ 0
-      unfolding first
-      given-none h = after-sum ∙ first-passed 15 (startWrong bs) [] h
+      after-sum : Gives (fieldTests l) (first start-tests) (firstPlace start-tests)
+      unfolding sum-tests start-tests
+      after-sum =
+          let here = passed-at 13 (length l - 2) (not (eqb (total (bytesOf l)) 0)) _ (ap not (eq-eqb (total (bytesOf l)) 0 z)) in
+          (after-outcome .0 ∙ here .0, after-outcome .1 ∙ here .1)
+
+      pub given-start : startWrong (bytesOf l) ≡ true → Gives (fieldTests l) 15 0
+      unfolding start-tests
+      given-start h =
+          let here = given-at 15 0 (startWrong (bytesOf l)) [] h in
+          (after-sum .0 ∙ here .0, after-sum .1 ∙ here .1)
+
+      pub given-none : startWrong (bytesOf l) ≡ false → Gives (fieldTests l) 0 0
+      unfolding start-tests first firstPlace
+      given-none h =
+          let here = passed-at 15 0 (startWrong (bytesOf l)) [] h in
+          (after-sum .0 ∙ here .0, after-sum .1 ∙ here .1)
 
 -- A line is not refused exactly where all this holds of it
 pub record Good (l : List ℕ) : Type 0 where
@@ -265,39 +385,50 @@ pub record Good (l : List ℕ) : Type 0 where
   pub start : startWrong (bytesOf l) ≡ false
 
 pub clear : (l : List ℕ) → Good l → lineRefusal l ≡ 0
-clear l g = refusal-whole l (g .digits) (g .has-kind) (g .long) ∙ given-none (bytesOf l) (g .outcome) (g .sum) (g .start)
+clear l g = refusal-whole l (g .digits) (g .has-kind) (g .long) .0 ∙ given-none l (g .outcome) (g .sum) (g .start) .0
 
-passed : (k : ℕ) (b : Bool) (xs : List Test) → none (test k b ∷ xs) ≡ true → (b ≡ false) × (none xs ≡ true)
+passed : (k p : ℕ) (b : Bool) (xs : List Test) → none (testAt k p b ∷ xs) ≡ true → (b ≡ false) × (none xs ≡ true)
 unfolding none
-passed k b xs h = (not-true b (and-left (not b) (none xs) h), and-right (not b) (none xs) h)
+passed k p b xs h = (not-true b (and-left (not b) (none xs) h), and-right (not b) (none xs) h)
 
 pub good : (l : List ℕ) → lineRefusal l ≡ 0 → Good l
 unfolding lineRefusal lineTests fieldTests numbered
 good l p =
     let bs = bytesOf l in
-    let r₆ = test 15 (startWrong bs) ∷ [] in
-    let r₅ = test 13 (not (eqb (total bs) 0)) ∷ r₆ in
-    let r₄ = test 11 (outcomeHigh bs) ∷ r₅ in
-    let r₃ = test 11 (not (eqb (length l) (digitsOf (lineKind bs)))) ∷ r₄ in
-    let r₂ = test 11 (not (known (lineKind bs))) ∷ r₃ in
-    let r₁ = test 11 (eqb (length l % 2) 1 || eqb (length l) 0) ∷ r₂ in
-    let g₀ = passed 12 (not (allDigits l)) r₁ (none-first (lineTests l) refl p) in
-    let g₁ = passed 11 (eqb (length l % 2) 1 || eqb (length l) 0) r₂ (g₀ .1) in
-    let g₂ = passed 11 (not (known (lineKind bs))) r₃ (g₁ .1) in
-    let g₃ = passed 11 (not (eqb (length l) (digitsOf (lineKind bs)))) r₄ (g₂ .1) in
-    let g₄ = passed 11 (outcomeHigh bs) r₅ (g₃ .1) in
-    let g₅ = passed 13 (not (eqb (total bs) 0)) r₆ (g₄ .1) in
+    let due = min (length l) (digitsOf (lineKind bs)) in
+    let r₆ = testAt 15 0 (startWrong bs) ∷ [] in
+    let r₅ = testAt 13 (length l - 2) (not (eqb (total bs) 0)) ∷ r₆ in
+    let r₄ = testAt 20 (fieldPlace 2 4) (outcomeHigh bs) ∷ r₅ in
+    let r₃ = testAt 19 due (not (eqb (length l) (digitsOf (lineKind bs)))) ∷ r₄ in
+    let r₂ = testAt 11 0 (not (known (lineKind bs))) ∷ r₃ in
+    let r₁ = testAt 18 (length l) (eqb (length l % 2) 1 || eqb (length l) 0) ∷ r₂ in
+    let g₀ = passed 12 (strayAt l) (not (allDigits l)) r₁ (none-first (lineTests l) refl p) in
+    let g₁ = passed 18 (length l) (eqb (length l % 2) 1 || eqb (length l) 0) r₂ (g₀ .1) in
+    let g₂ = passed 11 0 (not (known (lineKind bs))) r₃ (g₁ .1) in
+    let g₃ = passed 19 due (not (eqb (length l) (digitsOf (lineKind bs)))) r₄ (g₂ .1) in
+    let g₄ = passed 20 (fieldPlace 2 4) (outcomeHigh bs) r₅ (g₃ .1) in
+    let g₅ = passed 13 (length l - 2) (not (eqb (total bs) 0)) r₆ (g₄ .1) in
     record {
       digits = not-false (allDigits l) (g₀ .0);
       has-kind = not-false (known (lineKind bs)) (g₂ .0);
       long = eqb-true (length l) (digitsOf (lineKind bs)) (not-false (eqb (length l) (digitsOf (lineKind bs))) (g₃ .0));
       outcome = g₄ .0;
       sum = eqb-true (total bs) 0 (not-false (eqb (total bs) 0) (g₅ .0));
-      start = passed 15 (startWrong bs) [] (g₅ .1) .0;
+      start = passed 15 0 (startWrong bs) [] (g₅ .1) .0;
     }
 
+-- a line that is not refused has no place
+pub clear-place : (l : List ℕ) → lineRefusal l ≡ 0 → linePlace l ≡ 0
+unfolding lineRefusal linePlace lineTests fieldTests numbered
+clear-place l p = place-none (lineTests l) (none-first (lineTests l) refl p)
+
+-- number and place together
+pub fault-is : (l : List ℕ) (k p : ℕ) → Refuses l k p → record { number = k; place = p } ≡ lineFault l
+unfolding lineFault
+fault-is l k p r = λ i. record { number = sym (r .0) i; place = sym (r .1) i }
+
 -- what a line says: its refusal, a start or a step
-pub read-refused : (line k : ℕ) (l : List ℕ) → lineRefusal l ≡ suc k → Refused (suc k) ≡ readLine line l
+pub read-refused : (line k : ℕ) (l : List ℕ) → lineRefusal l ≡ suc k → Refused (suc k) (linePlace l) ≡ readLine line l
 unfolding readLine
 read-refused line k l p = rw p refl
 
@@ -405,11 +536,11 @@ module _ (out : List ℕ) (n : ℕ) where
 -- so a step that is written has an outcome within 3, and a start 2 to 16 nodes
 pub written-within : (out : List ℕ) (x : Action) → writerRefusal out x ≡ 0 → outcomeAbove x ≡ false
 unfolding writerRefusal writerTests numbered
-written-within out x p = passed 2 (outcomeAbove x) _ (none-first (writerTests out x) refl p) .0
+written-within out x p = passed 2 0 (outcomeAbove x) _ (none-first (writerTests out x) refl p) .0
 
 pub started-within : (out : List ℕ) (n : ℕ) → starterRefusal out n ≡ 0 → countRight n ≡ true
 unfolding starterRefusal starterTests numbered
-started-within out n p = not-false (countRight n) (passed 15 (not (countRight n)) _ (none-first (starterTests out n) refl p) .0)
+started-within out n p = not-false (countRight n) (passed 15 0 (not (countRight n)) _ (none-first (starterTests out n) refl p) .0)
 
 -- a count of 2 to 16
 pub count-right : (n : ℕ) → 2 ≤ n → n ≤ 16 → countRight n ≡ true
@@ -459,15 +590,24 @@ pub within-three : (a b ca cb o : ℕ) → o ≤ 3 → outcomeAbove (Session a b
 unfolding outcomeAbove
 within-three a b ca cb o h = le-ltb 3 o h
 
--- the values of an answer: the refusal first, and a frame's length
+-- the values of an answer: the refusal first, then its place, and a frame's length
 pub value-refusal : (line : ℕ) (l : List ℕ) → getD (lineValues (readLine line l)) 0 0 ≡ lineRefusal l
 unfolding readLine
 value-refusal line l = go (lineRefusal l) (eqb (lineKind (bytesOf l)) 0)
   where
-    go : (k : ℕ) (b : Bool) → getD (lineValues (lineIs k (meant line (bytesOf l) b))) 0 0 ≡ k
+    go : (k : ℕ) (b : Bool) → getD (lineValues (lineIs k (linePlace l) (meant line (bytesOf l) b))) 0 0 ≡ k
     go zero true = refl
     go zero false = refl
     go (suc k) b = refl
+
+pub value-place : (line : ℕ) (l : List ℕ) → getD (lineValues (readLine line l)) 1 0 ≡ linePlace l
+unfolding readLine
+value-place line l = go (lineRefusal l) (eqb (lineKind (bytesOf l)) 0) (clear-place l)
+  where
+    go : (k : ℕ) (b : Bool) → (k ≡ 0 → linePlace l ≡ 0) → getD (lineValues (lineIs k (linePlace l) (meant line (bytesOf l) b))) 1 0 ≡ linePlace l
+    go zero true h = sym (h refl)
+    go zero false h = sym (h refl)
+    go (suc k) b h = refl
 
 pub frame-most : (x : Action) → length (frame x) ≤ 27
 frame-most (Write p t b v) = rw (length-write p t b v) (omega arith)
@@ -489,3 +629,47 @@ value-start out n = go (starterRefusal out n)
     go : (k : ℕ) → getD (framedValues (framed k (startFrame n))) 1 0 ≤ 27
     go zero = rw (length-start n) (omega arith)
     go (suc k) = omega arith
+
+-- a line read in one call: refused, or accepted with too few words, or with enough
+module _ (l words : List ℕ) where
+  abbrev room : List Test
+  room = test 17 (ltb (length words) 6) ∷ []
+
+  refused-some : (lineRefusal l ≡ 0 → ⊥) → none (lineTests l) ≡ false
+  unfolding lineRefusal
+  refused-some h = go (none (lineTests l)) refl
+    where
+      go : (b : Bool) → none (lineTests l) ≡ b → b ≡ false
+      go true e = absurd (h (first-none (lineTests l) e))
+      go false e = refl
+
+  pub words-refused : (lineRefusal l ≡ 0 → ⊥) → (lineFault l ≡ wordsFault l words) × (words ≡ wordsAfter l words)
+  unfolding lineFault wordsFault wordsAfter wordsTests lineRefusal linePlace
+  words-refused h =
+      let given = given-before (lineTests l) room (refused-some h) in
+      (λ i. record { number = sym (given .0) i; place = sym (given .1) i }, go (first (lineTests l ++ room)) (λ z. h (sym (given .0) ∙ z)))
+    where
+      go : (k : ℕ) → (k ≡ 0 → ⊥) → words ≡ unless k (place 0 (sixValues l) words) words
+      go zero p = absurd (p refl)
+      go (suc k) p = refl
+
+  module _ (p : lineRefusal l ≡ 0) where
+    after-line : Gives (lineTests l ++ room) (first room) (firstPlace room)
+    unfolding lineRefusal lineTests fieldTests numbered
+    after-line = given-after (lineTests l) room (none-first (lineTests l) refl p)
+
+    pub words-few : length words < 6 → (record { number = 17; place = 0 } ≡ wordsFault l words) × (words ≡ wordsAfter l words)
+    unfolding wordsFault wordsAfter wordsTests
+    words-few h =
+        let here = given-at 17 0 (ltb (length words) 6) [] (lt-ltb (length words) 6 h) in
+        let number = after-line .0 ∙ here .0 in
+        let at = after-line .1 ∙ here .1 in
+        (λ i. record { number = sym number i; place = sym at i }, rw number refl)
+
+    pub words-full : 6 ≤ length words → (record { number = 0; place = 0 } ≡ wordsFault l words) × (place 0 (sixValues l) words ≡ wordsAfter l words)
+    unfolding wordsFault wordsAfter wordsTests first firstPlace
+    words-full h =
+        let here = passed-at 17 0 (ltb (length words) 6) [] (le-ltb (length words) 6 h) in
+        let number = after-line .0 ∙ here .0 in
+        let at = after-line .1 ∙ here .1 in
+        (λ i. record { number = sym number i; place = sym at i }, rw number refl)

@@ -14,7 +14,7 @@ use Rattle.meaning.specs.declared.Line.{Line}
 use Rattle.meaning.specs.declared.Line.the-variants.{Begin, Act, Refused}
 use Rattle.meaning.specs.declared.Next.{Next}
 use Rattle.meaning.specs.declared.Next.the-variants.{Begin as BeginAt, Act as ActAt, Refused as RefusedAt, End}
-use Rattle.meaning.specs.Frames.{bytesOf, lineKind, lineRefusal, meant, lineIs, readLine}
+use Rattle.meaning.specs.Frames.{bytesOf, lineKind, lineRefusal, linePlace, meant, lineIs, readLine}
 use Rattle.meaning.specs.Journals.{unlessLF, untilLF, hasLF, unended, lineAt, placeAfter, inTurn, nextIn, none, broken, step∷, stepsFrom}
 
 -- an LF at a place; another byte there; nothing at the end or beyond
@@ -88,11 +88,11 @@ module _ (k : ℕ) (s : List ℕ) (at line : ℕ) where
   unfolding stepsFrom
   steps-act e = rw (e, stepsFrom)
 
-  pub steps-begin : {n next : ℕ} → nextIn false s at line ≡ BeginAt n next → stepsFrom (suc k) s at line ≡ broken at line 15
+  pub steps-begin : {n next : ℕ} → nextIn false s at line ≡ BeginAt n next → stepsFrom (suc k) s at line ≡ broken at line 15 0
   unfolding stepsFrom
   steps-begin e = rw (e, stepsFrom)
 
-  pub steps-refused : {j : ℕ} → nextIn false s at line ≡ RefusedAt j → stepsFrom (suc k) s at line ≡ broken at line j
+  pub steps-refused : {j p : ℕ} → nextIn false s at line ≡ RefusedAt j p → stepsFrom (suc k) s at line ≡ broken at line j p
   unfolding stepsFrom
   steps-refused e = rw (e, stepsFrom)
 
@@ -111,7 +111,7 @@ steps-few (suc k) s at line = go (nextIn false s at line) refl (λ next. steps-f
         → length (stepsFrom (suc k) s at line .steps) ≤ suc k
     go (BeginAt n next) e few = rw (steps-begin k s at line e) (omega arith)
     go (ActAt x next) e few = let l = few next in rw (steps-act k s at line e) (omega arith)
-    go (RefusedAt j) e few = rw (steps-refused k s at line e) (omega arith)
+    go (RefusedAt j p) e few = rw (steps-refused k s at line e) (omega arith)
     go End e few = rw (steps-end (suc k) s at line e) (omega arith)
 
 pub bad-line : (k : ℕ) (s : List ℕ) (at line : ℕ) → 0 < stepsFrom k s at line .badNumber
@@ -129,44 +129,45 @@ bad-line (suc k) s at line h = go (nextIn false s at line) refl h (λ next. bad-
         let d = steps-act k s at line e in
         let l = rest next (rw d at b) in
         rw d (omega arith)
-    go (RefusedAt j) e b rest = rw (steps-refused k s at line e) (omega arith)
+    go (RefusedAt j p) e b rest = rw (steps-refused k s at line e) (omega arith)
     go End e b rest = absurd (let z : 0 < 0 = rw (steps-end (suc k) s at line e) at b in omega arith)
 
 -- a line's refusal has a number
 abbrev lineNumbered : Line → Bool
 lineNumbered (Begin n) = true
 lineNumbered (Act x) = true
-lineNumbered (Refused k) = ltb 0 k
+lineNumbered (Refused k p) = ltb 0 k
 
-meant-numbered : (line : ℕ) (bs : List ℕ) (b : Bool) (k : ℕ) → lineNumbered (lineIs k (meant line bs b)) ≡ true
-meant-numbered line bs true zero = refl
-meant-numbered line bs false zero = refl
-meant-numbered line bs b (suc k) = lt-ltb 0 (suc k) (omega arith)
+meant-numbered : (line : ℕ) (bs : List ℕ) (b : Bool) (k p : ℕ) → lineNumbered (lineIs k p (meant line bs b)) ≡ true
+meant-numbered line bs true zero p = refl
+meant-numbered line bs false zero p = refl
+meant-numbered line bs b (suc k) p = lt-ltb 0 (suc k) (omega arith)
 
 abbrev pub nextNumbered : Next → Bool
 nextNumbered (BeginAt n next) = true
 nextNumbered (ActAt x next) = true
-nextNumbered (RefusedAt k) = ltb 0 k
+nextNumbered (RefusedAt k p) = ltb 0 k
 nextNumbered End = true
 
 turn-numbered : (first : Bool) (next : ℕ) (l : Line) → lineNumbered l ≡ true → nextNumbered (inTurn first next l) ≡ true
 turn-numbered true next (Begin n) h = refl
 turn-numbered true next (Act x) h = refl
-turn-numbered true next (Refused k) h = h
+turn-numbered true next (Refused k p) h = h
 turn-numbered false next (Begin n) h = refl
 turn-numbered false next (Act x) h = refl
-turn-numbered false next (Refused k) h = h
+turn-numbered false next (Refused k p) h = h
 
 next-numbered : (first : Bool) (s : List ℕ) (at line : ℕ) → nextNumbered (nextIn first s at line) ≡ true
 unfolding nextIn readLine
-next-numbered first s at line = go (leb (length s) at) (unended s at)
+next-numbered first s at line = go (leb (length s) at) (unended s at) _
   where
-    go : (a b : Bool) → nextNumbered (cond a End (cond b (RefusedAt 14) (inTurn first (placeAfter s at) (readLine line (lineAt s at))))) ≡ true
-    go true b = refl
-    go false true = refl
-    go false false =
+    go : (a b : Bool) (p : ℕ) →
+        nextNumbered (cond a End (cond b (RefusedAt 14 p) (inTurn first (placeAfter s at) (readLine line (lineAt s at))))) ≡ true
+    go true b p = refl
+    go false true p = refl
+    go false false p =
         turn-numbered first (placeAfter s at) (readLine line (lineAt s at))
-        (meant-numbered line (bytesOf (lineAt s at)) (eqb (lineKind (bytesOf (lineAt s at))) 0) (lineRefusal (lineAt s at)))
+        (meant-numbered line (bytesOf (lineAt s at)) (eqb (lineKind (bytesOf (lineAt s at))) 0) (lineRefusal (lineAt s at)) (linePlace (lineAt s at)))
 
-pub refused-numbered : (first : Bool) (s : List ℕ) (at line k : ℕ) → nextIn first s at line ≡ RefusedAt k → 0 < k
-refused-numbered first s at line k e = ltb-true 0 k (sym (ap nextNumbered e) ∙ next-numbered first s at line)
+pub refused-numbered : (first : Bool) (s : List ℕ) (at line k p : ℕ) → nextIn first s at line ≡ RefusedAt k p → 0 < k
+refused-numbered first s at line k p e = ltb-true 0 k (sym (ap nextNumbered e) ∙ next-numbered first s at line)

@@ -2,6 +2,7 @@ pub mod Edges
 pub mod PlaceLaws
 pub mod PieceLaws
 pub mod RowLaws
+pub mod BitLaws
 pub mod RefusalLaws
 pub mod TableLaws
 pub mod StepLaws
@@ -24,5 +25,6 @@ pub mod ClassRanges
 pub mod OneReply
 pub mod FrameInverses
 pub mod FrameTheorems
+pub mod FaultTheorems
 pub mod WideLaws
 pub mod Numbers

@@ -69,7 +69,7 @@ after-outside t x i out = go (refusal t x) refl
     go zero h = ap (λ (u : List ℕ). getD u i 0) (after-accepted t x h) ∙ acted-outside t x h i out
     go (suc k) h = ap (λ (u : List ℕ). getD u i 0) (after-refused t x k h)
 
--- A single line's refusal is one of its tests' numbers: 12, 11, 13 or 15, and 0 is none
+-- A single line's refusal is one of its tests' numbers: 12, 18, 11, 19, 20, 13 or 15, and 0 is none
 pub line-listed : (l : List ℕ) → listed (lineRefusal l) (lineTests l) ≡ true
 unfolding lineRefusal
 line-listed l = first-listed (lineTests l)

@@ -54,6 +54,18 @@ pub getD-part : (at k : ℕ) (t : List ℕ) (i j : ℕ) → j ≡ at + i → i <
 unfolding part
 getD-part at k t i j e h = rw e (getD-take k (drop at t) i 0 h ∙ getD-drop at t i 0)
 
+-- what a slice from at to at + k lends is the part there
+pub part-lent : (at k : ℕ) (t : List ℕ) → take ((at + k) - at) (drop at t) ≡ part at k t
+unfolding part
+part-lent at k t =
+    let e : (at + k) - at ≡ k = omega arith in
+    ap (λ (m : ℕ). take m (drop at t)) e
+
+pub inside-lent : (at k : ℕ) (t : List ℕ) (i : ℕ) → i < k → at + k ≤ length t → i < length (take ((at + k) - at) (drop at t))
+inside-lent at k t i h fits =
+    let l = ap length (part-lent at k t) ∙ length-part at k t fits in
+    omega arith
+
 -- what was put is read again
 pub part-same : (at : ℕ) (ys t : List ℕ) (k : ℕ) → k ≡ length ys → at + length ys ≤ length t → part at k (place at ys t) ≡ ys
 part-same at ys t k e fits =

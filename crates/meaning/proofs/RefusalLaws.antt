@@ -1,5 +1,5 @@
--- Laws of refusals in order: a test that applies after none gives its number, one that does not apply is passed over, 0 is given exactly where
--- none applies, the number given is one of the list, and a refusal changes nothing. They are laws of any list.
+-- Laws of refusals in order: a test that applies after none gives its number and its place, one that does not apply is passed over, 0 is given
+-- exactly where none applies, with place 0, the number given is one of the list, and a refusal changes nothing. They are laws of any list.
 use mathlib.Core.Path.{_≡_, refl, ap, _∙_}
 use mathlib.Core.Bool.{Bool, true, false, not, _&&_, _||_, cond, or-true, true≢false}
 use mathlib.Core.List.{List, [], _∷_, _++_}
@@ -8,7 +8,7 @@ use native.Mathlib.Omega.{arith}
 use borrow.Author.Tests.{eq-eqb, ltb-true, not-true}
 use lib.Dec.{ltb, eqb}
 use Rattle.meaning.specs.Rows.{unless}
-use Rattle.meaning.specs.Refusals.{Test, test, first}
+use Rattle.meaning.specs.Refusals.{Test, test, testAt, first, firstPlace}
 use Rattle.meaning.proofs.RowLaws.{and-left, and-right}
 
 -- no test applies; each number is above 0, so that 0 is no test's; a number is a test's, or 0
@@ -29,14 +29,24 @@ unfoldable pub testOf : ℕ → List Test → Bool
 testOf k [] = false
 testOf k (x ∷ xs) = cond (eqb (x .number) k) (x .applies) (testOf k xs)
 
+-- the number and the place that a list gives
+abbrev pub Gives : List Test → ℕ → ℕ → Type 0
+Gives xs k p = (first xs ≡ k) × (firstPlace xs ≡ p)
+
 -- a row at the head: given, or passed over
+pub given-at : (k p : ℕ) (b : Bool) (xs : List Test) → b ≡ true → Gives (testAt k p b ∷ xs) k p
+unfolding first firstPlace
+given-at k p b xs h = (rw h, rw h)
+
+pub passed-at : (k p : ℕ) (b : Bool) (xs : List Test) → b ≡ false → Gives (testAt k p b ∷ xs) (first xs) (firstPlace xs)
+unfolding first firstPlace
+passed-at k p b xs h = (rw h, rw h)
+
 pub first-given : (k : ℕ) (b : Bool) (xs : List Test) → b ≡ true → first (test k b ∷ xs) ≡ k
-unfolding first
-first-given k b xs h = rw h
+first-given k b xs h = given-at k 0 b xs h .0
 
 pub first-passed : (k : ℕ) (b : Bool) (xs : List Test) → b ≡ false → first (test k b ∷ xs) ≡ first xs
-unfolding first
-first-passed k b xs h = rw h
+first-passed k b xs h = passed-at k 0 b xs h .0
 
 -- The first that applies: a test that applies with none before it gives its number
 pub first-is : (xs : List Test) (x : Test) (ys : List Test) → none xs ≡ true → x .applies ≡ true → first (xs ++ (x ∷ ys)) ≡ x .number
@@ -45,12 +55,45 @@ first-is [] x ys n h = rw h
 first-is (y ∷ xs) x ys n h =
     rw (not-true (y .applies) (and-left (not (y .applies)) (none xs) n)) (first-is xs x ys (and-right (not (y .applies)) (none xs) n) h)
 
--- None: 0 is given exactly where no test applies
+-- and its place
+pub place-is : (xs : List Test) (x : Test) (ys : List Test) → none xs ≡ true → x .applies ≡ true → firstPlace (xs ++ (x ∷ ys)) ≡ x .place
+unfolding firstPlace none
+place-is [] x ys n h = rw h
+place-is (y ∷ xs) x ys n h =
+    rw (not-true (y .applies) (and-left (not (y .applies)) (none xs) n)) (place-is xs x ys (and-right (not (y .applies)) (none xs) n) h)
+
+-- Tests after others: they are not asked where one before them applies, and alone where none does
+pub given-before : (xs ys : List Test) → none xs ≡ false → Gives (xs ++ ys) (first xs) (firstPlace xs)
+unfolding first firstPlace none
+given-before [] ys h = absurd (true≢false h)
+given-before (x ∷ xs) ys h = go (x .applies) (given-before xs ys) h
+  where
+    go : (b : Bool) → (none xs ≡ false → Gives (xs ++ ys) (first xs) (firstPlace xs)) → not b && none xs ≡ false
+        → (cond b (x .number) (first (xs ++ ys)) ≡ cond b (x .number) (first xs))
+        × (cond b (x .place) (firstPlace (xs ++ ys)) ≡ cond b (x .place) (firstPlace xs))
+    go true ih e = (refl, refl)
+    go false ih e = ih e
+
+pub given-after : (xs ys : List Test) → none xs ≡ true → Gives (xs ++ ys) (first ys) (firstPlace ys)
+unfolding first firstPlace none
+given-after [] ys n = (refl, refl)
+given-after (x ∷ xs) ys n =
+    let here = not-true (x .applies) (and-left (not (x .applies)) (none xs) n) in
+    let rest = given-after xs ys (and-right (not (x .applies)) (none xs) n) in
+    (rw here (rest .0), rw here (rest .1))
+
+-- None: 0 is given exactly where no test applies, and the place is 0 too
 pub first-none : (xs : List Test) → none xs ≡ true → first xs ≡ 0
 unfolding first none
 first-none [] n = refl
 first-none (x ∷ xs) n =
     rw (not-true (x .applies) (and-left (not (x .applies)) (none xs) n)) (first-none xs (and-right (not (x .applies)) (none xs) n))
+
+pub place-none : (xs : List Test) → none xs ≡ true → firstPlace xs ≡ 0
+unfolding firstPlace none
+place-none [] n = refl
+place-none (x ∷ xs) n =
+    rw (not-true (x .applies) (and-left (not (x .applies)) (none xs) n)) (place-none xs (and-right (not (x .applies)) (none xs) n))
 
 pub none-first : (xs : List Test) → numbered xs ≡ true → first xs ≡ 0 → none xs ≡ true
 unfolding first none numbered

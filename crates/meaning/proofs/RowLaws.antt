@@ -186,6 +186,22 @@ least-take (x ∷ xs) zero h g = absurd (omega arith)
 least-take (x ∷ xs) (suc i) h g =
     ap (λ (l : List ℕ). least (x ∷ l)) (take-suc xs i 0 (omega arith)) ∙ least-snoc x (take i xs) (getD xs i 0)
 
+-- the smallest entry is at most each, and what is not below it changes nothing before a row
+pub least-at : (xs : List ℕ) (i : ℕ) → i < length xs → least xs ≤ getD xs i 0
+unfolding least
+least-at [] i h = absurd (omega arith)
+least-at (x ∷ []) zero h = omega arith
+least-at (x ∷ []) (suc i) h = absurd (omega arith)
+least-at (x ∷ (y ∷ ys)) zero h = omega arith
+least-at (x ∷ (y ∷ ys)) (suc i) h =
+    let below = least-at (y ∷ ys) i (omega arith) in
+    omega arith
+
+pub least-before : (v : ℕ) (xs : List ℕ) → 0 < length xs → least xs ≤ v → least (v ∷ xs) ≡ least xs
+unfolding least
+least-before v [] h g = absurd (omega arith)
+least-before v (x ∷ xs) h g = omega arith
+
 pub raise-take :
     (xs ys : List ℕ) (i : ℕ) → i < length xs → i < length ys →
     raise (take (suc i) xs) (take (suc i) ys) ≡ raise (take i xs) (take i ys) ++ (max (getD xs i 0) (getD ys i 0) ∷ [])

@@ -1,16 +1,18 @@
--- Laws about soundness: a test at every number, a log's greatest origin and verdict, and where a record of a log stands in the table.
+-- Laws about soundness: a test at every number, the scan of a log, and where a record of a log stands in the table.
 use mathlib.Core.Path.{_≡_, refl, sym, ap, _∙_}
-use mathlib.Core.Bool.{Bool, true, false, _&&_}
+use mathlib.Core.Bool.{Bool, true, false, _&&_, cond, and-true}
 use mathlib.Core.List.{List}
-use Prim.Native.Nat.{ℕ, zero, suc, _+_, _*_, _<_, _≤_, max}
-use native.Mathlib.Nat.{max-le, suc-max-suc}
+use Prim.Native.Nat.{ℕ, zero, suc, _+_, _*_, _<_, _≤_}
+use native.Mathlib.Nat.{add-zero}
 use native.Mathlib.Numerals.{add-one}
 use native.Mathlib.Omega.{arith}
-use borrow.Author.Tests.{lt-ltb, eq-eqb, ne-eqb, leb-true, leb-false, le-leb, lt-leb}
+use borrow.Author.Tests.{eq-eqb, ne-eqb, le-leb, lt-leb}
 use lib.ListN.{length, getD, take, drop}
 use lib.Seq.{getD-take}
-use lib.Dec.{leb, ltb}
+use lib.Bits.{bitOr}
+use lib.Dec.{leb, ltb, eqb}
 use Rattle.meaning.specs.Rows.{every, recordAt}
+use Rattle.meaning.proofs.BitLaws.{or-byte}
 use Rattle.meaning.proofs.RowLaws.{every-at, recordAt-agree}
 use Rattle.meaning.specs.Table.{tableWords, nodesMost, logMost, logAt, part, count, held, recordSound, logSound, sound}
 
@@ -43,17 +45,14 @@ every-not n f i h e = go (every n f) refl
     go true t = let at = every-at n f t i h in cc
     go false t = t
 
--- the greater of two numbers is at most n if both are
-leb-max : (a b n : ℕ) → leb (max a b) n ≡ (leb a n && leb b n)
-leb-max a b n = go (leb a n) (leb b n) refl refl
+-- a count with a test's failure added is 0 if it was and the test passes
+none-more : (m : ℕ) (passes : Bool) → eqb (m + cond passes 0 1) 0 ≡ (eqb m 0 && passes)
+none-more m true = ap (λ (x : ℕ). eqb x 0) (add-zero m) ∙ sym (and-true (eqb m 0))
+none-more m false = ne-eqb (m + 1) 0 (λ e. omega arith) ∙ go (eqb m 0)
   where
-    go : (p q : Bool) → leb a n ≡ p → leb b n ≡ q → leb (max a b) n ≡ (p && q)
-    go true true hp hq = le-leb (max a b) n (max-le (leb-true a n hp) (leb-true b n hq))
-    go true false hp hq = lt-leb (max a b) n (omega (arith, leb-false b n hq))
-    go false q hp hq = lt-leb (max a b) n (omega (arith, leb-false a n hp))
-
-ltb-max : (a b n : ℕ) → ltb (max a b) n ≡ (ltb a n && ltb b n)
-ltb-max a b n = rw (← suc-max-suc) (leb-max (suc a) (suc b) n)
+    go : (b : Bool) → false ≡ (b && false)
+    go true = refl
+    go false = refl
 
 crossed : (a b c d : Bool) → ((a && b) && (c && d)) ≡ ((a && c) && (b && d))
 crossed true b true d = refl
@@ -61,27 +60,26 @@ crossed true true false d = refl
 crossed true false false d = refl
 crossed false b c d = refl
 
--- The scan of a log of words w, where o is the greatest origin and v the greatest verdict of the k records passed.
+-- The scan of a log of words w, where m of the k records passed have an origin that is not below n, and v is their verdicts' bits together.
 module _ (w : List ℕ) (n : ℕ) where
-  pub scan-starts : 0 < n → (ltb 0 n && leb 0 255) ≡ every 0 (λ i. recordSound n (recordAt w i))
+  pub scan-starts : (eqb 0 0 && leb 0 255) ≡ every 0 (λ i. recordSound n (recordAt w i))
   unfolding every
-  scan-starts h = rw (lt-ltb 0 n h)
+  scan-starts = refl
 
-  pub scan-more : (k o v o' v' : ℕ)
-      → o' ≡ max o (getD w (4 * k) 0)
-      → v' ≡ max v (getD w (4 * k + 3) 0)
-      → (ltb o n && leb v 255) ≡ every k (λ i. recordSound n (recordAt w i))
-      → (ltb o' n && leb v' 255) ≡ every (k + 1) (λ i. recordSound n (recordAt w i))
+  pub scan-more : (k m v d : ℕ)
+      → d ≡ cond (ltb (getD w (4 * k) 0) n) 0 1
+      → (eqb m 0 && leb v 255) ≡ every k (λ i. recordSound n (recordAt w i))
+      → (eqb (m + d) 0 && leb (bitOr v (getD w (4 * k + 3) 0)) 255) ≡ every (k + 1) (λ i. recordSound n (recordAt w i))
   unfolding recordSound recordAt
-  scan-more k o v o' v' eo ev before =
-      rw (eo, ev, every-more, ltb-max, leb-max, ← before)
-      (crossed (ltb o n) (ltb (getD w (4 * k) 0) n) (leb v 255) (leb (getD w (4 * k + 3) 0) 255))
+  scan-more k m v d ed before =
+      rw (ed, every-more, none-more, or-byte, ← before)
+      (crossed (eqb m 0) (ltb (getD w (4 * k) 0) n) (leb v 255) (leb (getD w (4 * k + 3) 0) 255))
 
   -- the answer after the last record, b what the origins' test says
-  pub scan-ends : (b : Bool) (k held o v : ℕ) → k ≤ held → held ≤ k → ltb o n ≡ b
-      → (ltb o n && leb v 255) ≡ every k (λ i. recordSound n (recordAt w i))
+  pub scan-ends : (b : Bool) (k held m v : ℕ) → k ≤ held → held ≤ k → eqb m 0 ≡ b
+      → (eqb m 0 && leb v 255) ≡ every k (λ i. recordSound n (recordAt w i))
       → (b && leb v 255) ≡ every held (λ i. recordSound n (recordAt w i))
-  scan-ends b k held o v below above t before = let all : k ≡ held = omega arith in rw (← t, ← all) before
+  scan-ends b k held m v below above t before = let all : k ≡ held = omega arith in rw (← t, ← all) before
 
 -- A record of a log's held part is that of the whole log.
 pub recordAt-held : (t : List ℕ) (at k m i : ℕ) → i < k → 4 * k ≤ m → recordAt (take (4 * k) (drop at t)) i ≡ recordAt (part at m t) i

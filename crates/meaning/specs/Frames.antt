@@ -2,16 +2,17 @@
 use mathlib.Core.Path.{_≡_}
 use mathlib.Core.Bool.{Bool, true, false, not, _&&_, _||_, cond}
 use mathlib.Core.List.{List, [], _∷_, _++_}
-use Prim.Native.Nat.{ℕ, zero, suc, _+_, _-_, _*_, _/_, _%_, _^_}
+use Prim.Native.Nat.{ℕ, zero, suc, _+_, _-_, _*_, _/_, _%_, _^_, min}
 use lib.ListN.{length, getD, take, drop}
 use lib.Dec.{leb, ltb, eqb}
 use Rattle.meaning.specs.declared.Action.{Action}
 use Rattle.meaning.specs.declared.Action.the-variants.{Write, Session, Purge}
+use Rattle.meaning.specs.declared.Fault.{Fault}
 use Rattle.meaning.specs.declared.Line.{Line}
 use Rattle.meaning.specs.declared.Line.the-variants.{Begin, Act, Refused}
 use Rattle.meaning.specs.declared.Framed.{Framed}
 use Rattle.meaning.specs.declared.Framed.the-variants.{Length, Refused as Unframed}
-use Rattle.meaning.specs.Refusals.{Test, test, first}
+use Rattle.meaning.specs.Refusals.{Test, test, testAt, first, firstPlace}
 use Rattle.meaning.specs.Rows.{unless}
 use Rattle.meaning.specs.Table.{countRight, place}
 use Rattle.meaning.specs.Steps.{outcomeAbove}
@@ -36,6 +37,11 @@ bytesOf (h ∷ (l ∷ cs)) = (16 * digitValue h + digitValue l) ∷ bytesOf cs
 unfoldable pub allDigits : List ℕ → Bool
 allDigits [] = true
 allDigits (c ∷ cs) = ltb (digitValue c) 16 && allDigits cs
+
+-- the place of the first character that is no digit, the length where all are
+unfoldable pub strayAt : List ℕ → ℕ
+strayAt [] = 0
+strayAt (c ∷ cs) = cond (ltb (digitValue c) 16) (suc (strayAt cs)) 0
 
 -- "the sum wrapping at 256"; the check byte is its wrapped negation
 unfoldable pub total : List ℕ → ℕ
@@ -75,6 +81,10 @@ summed (x ∷ xs) = x + summed xs
 unfoldable pub digitsIn : List Kind → ℕ → ℕ
 digitsIn ks k = 2 * (summed (widthsIn ks k) + 2)
 
+-- the place of a field's first digit, by its place among the fields: after the kind's two digits and those of the fields before
+unfoldable pub fieldPlaceIn : List Kind → ℕ → ℕ → ℕ
+fieldPlaceIn ks k i = 2 * (1 + summed (take i (widthsIn ks k)))
+
 -- the same of a journal's lines
 abbrev pub known : ℕ → Bool
 known k = knownIn journalKinds k
@@ -84,6 +94,9 @@ widths k = widthsIn journalKinds k
 
 abbrev pub digitsOf : ℕ → ℕ
 digitsOf k = digitsIn journalKinds k
+
+abbrev pub fieldPlace : ℕ → ℕ → ℕ
+fieldPlace k i = fieldPlaceIn journalKinds k i
 
 -- "Numbers are high byte first."
 unfoldable pub highFirst : ℕ → ℕ → List ℕ
@@ -196,17 +209,18 @@ fieldsIn ks bs = unpacked (widthsIn ks (lineKind bs)) (drop 1 bs)
 abbrev pub lineFields : List ℕ → List ℕ
 lineFields bs = fieldsIn journalKinds bs
 
--- Line refusals, the first that applies. What any reader of lines asks, whatever its kinds: 12, then of 11 "the digits are none or odd in number,
--- the kind is unknown, the length is not the kind's"
+-- Line refusals, the first that applies, each with "the place in the line, from 0, of the first character at fault (the line's length where
+-- something is lacking; for 11, 13 (the check byte) and 20 the byte's first digit; for 15 place 0)". What any reader of lines asks, whatever its
+-- kinds: 12, "18 no digits or odd, 11 [the kind is unknown], 19 wrong length"; of a line too long the first character too many is at fault
 abbrev pub shapeTests : List Kind → List ℕ → List Test → List Test
 shapeTests ks l more =
-    test 12 (not (allDigits l))
-    ∷ test 11 (eqb (length l % 2) 1 || eqb (length l) 0)
-    ∷ test 11 (not (knownIn ks (lineKind (bytesOf l))))
-    ∷ test 11 (not (eqb (length l) (digitsIn ks (lineKind (bytesOf l)))))
+    testAt 12 (strayAt l) (not (allDigits l))
+    ∷ testAt 18 (length l) (eqb (length l % 2) 1 || eqb (length l) 0)
+    ∷ testAt 11 0 (not (knownIn ks (lineKind (bytesOf l))))
+    ∷ testAt 19 (min (length l) (digitsIn ks (lineKind (bytesOf l)))) (not (eqb (length l) (digitsIn ks (lineKind (bytesOf l)))))
     ∷ more
 
--- and of a journal's line: 11, "or an outcome is above 3", then 13, and of 15 only "a start's n is not 2 to 16"
+-- and of a journal's line: "20 outcome above 3, then 13 and 15", of 15 only "a start's n is not 2 to 16"
 abbrev pub outcomeHigh : List ℕ → Bool
 outcomeHigh bs = eqb (lineKind bs) 2 && ltb 3 (getD (lineFields bs) 4 0)
 
@@ -214,28 +228,68 @@ abbrev pub startWrong : List ℕ → Bool
 startWrong bs = eqb (lineKind bs) 0 && not (countRight (getD (lineFields bs) 0 0))
 
 unfoldable pub fieldTests : List ℕ → List Test
-fieldTests bs = test 11 (outcomeHigh bs) ∷ test 13 (not (eqb (total bs) 0)) ∷ test 15 (startWrong bs) ∷ []
+fieldTests l =
+    testAt 20 (fieldPlace 2 4) (outcomeHigh (bytesOf l))
+    ∷ testAt 13 (length l - 2) (not (eqb (total (bytesOf l)) 0))
+    ∷ testAt 15 0 (startWrong (bytesOf l))
+    ∷ []
 
 unfoldable pub lineTests : List ℕ → List Test
-lineTests l = shapeTests journalKinds l (fieldTests (bytesOf l))
+lineTests l = shapeTests journalKinds l (fieldTests l)
 
+-- what a list of tests gives, as number and place
+abbrev pub faultOf : List Test → Fault
+faultOf xs = record { number = first xs; place = firstPlace xs }
+
+-- a line's refusal and its place, 0 and 0 for none
 unfoldable pub lineRefusal : List ℕ → ℕ
 lineRefusal l = first (lineTests l)
+
+unfoldable pub linePlace : List ℕ → ℕ
+linePlace l = firstPlace (lineTests l)
+
+unfoldable pub lineFault : List ℕ → Fault
+lineFault l = record { number = lineRefusal l; place = linePlace l }
 
 -- What a line of these bytes says, where it is not refused; the step takes the line number that the reader is told
 abbrev pub meant : ℕ → List ℕ → Bool → Line
 meant line bs true = Begin (getD (lineFields bs) 0 0)
 meant line bs false = Act (record { line = line; action = actionOf (lineKind bs) (lineFields bs) })
 
-abbrev pub lineIs : ℕ → Line → Line
-lineIs zero x = x
-lineIs (suc k) x = Refused (suc k)
+abbrev pub lineIs : ℕ → ℕ → Line → Line
+lineIs zero p x = x
+lineIs (suc k) p x = Refused (suc k) p
 
 unfoldable pub readLine : ℕ → List ℕ → Line
-readLine line l = lineIs (lineRefusal l) (meant line (bytesOf l) (eqb (lineKind (bytesOf l)) 0))
+readLine line l = lineIs (lineRefusal l) (linePlace l) (meant line (bytesOf l) (eqb (lineKind (bytesOf l)) 0))
 
--- Document 01's values of each answer: the refusal (0 for none), then the kind and the fields
+-- Document 01's values of each answer: the refusal and its place (0 and 0 for none), then the kind and the fields
 abbrev pub lineValues : Line → List ℕ
-lineValues (Begin n) = 0 ∷ 0 ∷ n ∷ []
-lineValues (Act s) = 0 ∷ kindOf (s .action) ∷ fieldsOf (s .action)
-lineValues (Refused k) = k ∷ []
+lineValues (Begin n) = 0 ∷ 0 ∷ 0 ∷ n ∷ []
+lineValues (Act s) = 0 ∷ 0 ∷ kindOf (s .action) ∷ fieldsOf (s .action)
+lineValues (Refused k p) = k ∷ p ∷ []
+
+-- A line read in one call, its kind and fields into lent words (T-01): the line's refusals in their order, then 17 where fewer than six words are
+-- lent, with place 0
+unfoldable pub wordsTests : List ℕ → List ℕ → List Test
+wordsTests l words = lineTests l ++ (test 17 (ltb (length words) 6) ∷ [])
+
+unfoldable pub wordsFault : List ℕ → List ℕ → Fault
+wordsFault l words = faultOf (wordsTests l words)
+
+-- as many values as are asked for: the list's, and 0 after them
+unfoldable pub padded : ℕ → List ℕ → List ℕ
+padded zero xs = []
+padded (suc k) [] = 0 ∷ padded k []
+padded (suc k) (x ∷ xs) = x ∷ padded k xs
+
+-- the six values of a line: its kind and fields, 0 where the kind has no such field
+unfoldable pub sixValues : List ℕ → List ℕ
+sixValues l = padded 6 (drop 2 (lineValues (readLine 0 l)))
+
+-- the words at exit: those six over the first six, and with a refusal what was there
+unfoldable pub wordsAfter : List ℕ → List ℕ → List ℕ
+wordsAfter l words = unless (first (wordsTests l words)) (place 0 (sixValues l) words) words
+
+abbrev pub ReadWords : List ℕ → List ℕ → Fault → List ℕ → Type 0
+ReadWords l words r words′ = (r ≡ wordsFault l words) × (words′ ≡ wordsAfter l words)

@@ -44,11 +44,17 @@ pub enum Reply {
     Refused { number: u32 },
 }
 
-// What a single line says: it starts a table of n nodes, it is a step, or it is refused.
+// What is wrong with a line: the number of its refusal, and the place in the line, from 0, of the first character at fault. Two zeros are none.
+pub struct Fault {
+    pub number: u32,
+    pub place: usize,
+}
+
+// What a single line says: it starts a table of n nodes, it is a step, or it is refused, at a place in the line.
 pub enum Line {
     Begin { n: u8 },
     Act { step: Step },
-    Refused { number: u32 },
+    Refused { number: u32, place: usize },
 }
 
 // What writing a frame reports: its length, LF included, or a refusal.
@@ -57,18 +63,24 @@ pub enum Framed {
     Refused { number: u32 },
 }
 
-// What the journal reader finds at its position: a start or a step with the place after its line, a refusal, or the end.
+// What the journal reader finds at its position: a start or a step with the place after its line, a refusal with its
+// place in the line, or the end.
 pub enum Next {
     Begin { n: u8, next: usize },
     Act { step: Step, next: usize },
-    Refused { number: u32 },
+    Refused { number: u32, place: usize },
     End,
 }
 
-// How a journal's replay ends: at a refused line, or with n nodes, all step lines and those refused.
+// How a journal's replay ends: at a refused line, with the place in it; with n nodes, all step lines and those refused; or, refused for its
+// table's or the journal's length, before a line is read, so that there is neither line nor place.
 pub enum Outcome {
     Bad {
         line: usize,
+        number: u32,
+        place: usize,
+    },
+    Refused {
         number: u32,
     },
     Done {
@@ -78,13 +90,20 @@ pub enum Outcome {
     },
 }
 
-// How far lines came on a table: the steps applied, how many of them were refused, the place where the reading stopped,
-// and the number of the refused line, 0 at the end.
+// What one line on a table answers: the reply, and the place in the line where it is the line that is refused, else 0.
+pub struct Answer {
+    pub reply: Reply,
+    pub place: usize,
+}
+
+// How far lines came on a table: the steps applied, how many of them were refused, where the reading stopped, and the
+// number of the refused line and its place in it, two zeros at the end.
 pub struct Progress {
     pub steps: usize,
     pub refused: usize,
     pub stop: usize,
     pub number: u32,
+    pub place: usize,
 }
 
 // The class of a verdict byte.

@@ -9,7 +9,7 @@ ghost use Rattle.meaning.specs.Table.{nodesMost, count, part, Sound};
 ghost use Rattle.openings.specs.Begun.{heldLog, crowds, Shows, Starts};
 use logs::newer_count;
 use rows::copy_row;
-use rows::least_of;
+use rows::least_with;
 
 // "outcome 0 finishes neither side, 1 only a, 2 only b, 3 both": whether a side finishes that `only` names.
 pub fn finishes(outcome: u8, only: u8) -> bool
@@ -35,8 +35,10 @@ pub fn opening(summary: &mut [u32], acks: &mut [u32], t: &[u32], p: usize, n: us
     requires { ⌜ Sound (now t) × (p < count (now t)) × (n ≡ count (now t)) ⌝ }
     ensures { λ _. ⌜ Starts (now (t .entry)) p n reading (now (summary .exit)) (now (acks .exit)) ⌝ }
 {
-    row_with(summary, t, layout::summary_at(p), p, reading);
-    let low = least_of(&summary[0..n]);
+    let at = layout::summary_at(p);
+    let end = at + n;
+    let low = least_with(&t[at..end], p, reading);
+    row_with(summary, t, at, p, reading);
     row_with(acks, t, layout::acks_at(p), p, low);
 }
 

@@ -1,11 +1,14 @@
--- Two replies that a contract of framing.rt allows are equal: the number returned, the length stored and every lent byte at exit.
+-- Two replies that a contract of framing.rt allows are equal: the number returned, the place or the length stored and every lent byte at
+-- exit.
 use mathlib.Core.Path.{sym, _∙_}
 use mathlib.Core.List.{[], _∷_, _++_}
 use denote.Ref.{now}
 use Rattle.meaning.proofs.OneReply.{OneReply, OneResult}
 use Rattle.answers.proofs.ValueLaws.{both}
-use Rattle.pollencart.proofs.framing.pollencart_check.Kinds as check-kinds
-use Rattle.pollencart.proofs.framing.pollencart_check.Reads as check
+use Rattle.pollencart.proofs.framing.pollencart_check_line.Kinds as check-kinds
+use Rattle.pollencart.proofs.framing.pollencart_check_line.Reads as check
+use Rattle.pollencart.proofs.framing.pollencart_read_line.Kinds as read-kinds
+use Rattle.pollencart.proofs.framing.pollencart_read_line.Reads as read
 use Rattle.pollencart.proofs.framing.pollencart_kind.Kinds as kind-kinds
 use Rattle.pollencart.proofs.framing.pollencart_kind.Reads as kind
 use Rattle.pollencart.proofs.framing.pollencart_field.Kinds as field-kinds
@@ -19,8 +22,11 @@ use Rattle.pollencart.proofs.framing.pollencart_frame_session.Reads as 
 use Rattle.pollencart.proofs.framing.pollencart_frame_purge.Kinds as purge-kinds
 use Rattle.pollencart.proofs.framing.pollencart_frame_purge.Reads as purge
 
-pub one-check : OneResult 1 check-kinds.ps check-kinds.r check.Post
+pub one-check : OneReply 2 check-kinds.ps check-kinds.r check.Post (λ κs x s. x ∷ now (s .1 .0) ∷ [])
 one-check κs a x y s s' p q = p ∙ sym q
+
+pub one-read : OneReply 3 read-kinds.ps read-kinds.r read.Post (λ κs x s. (x ∷ now (s .1 .1 .0) ∷ []) ++ now (s .1 .0))
+one-read κs a x y s s' p q = both (p .0) (q .0) (p .1) (q .1)
 
 pub one-kind : OneResult 1 kind-kinds.ps kind-kinds.r kind.Post
 one-kind κs a x y s s' p q = p ∙ sym q

@@ -3,15 +3,17 @@ use mathlib.Core.List.{[], _∷_, _++_}
 use denote.Ref.{now}
 use Rattle.meaning.proofs.OneReply.{OneReply}
 use Rattle.answers.proofs.ValueLaws.{both}
-use Rattle.pollencart.proofs.applies.pollencart_line.Kinds as line-kinds
-use Rattle.pollencart.proofs.applies.pollencart_line.Reads as line
-use Rattle.pollencart.proofs.applies.pollencart_lines.Kinds as lines-kinds
-use Rattle.pollencart.proofs.applies.pollencart_lines.Reads as lines
+use Rattle.pollencart.proofs.applies.pollencart_apply_line.Kinds as line-kinds
+use Rattle.pollencart.proofs.applies.pollencart_apply_line.Reads as line
+use Rattle.pollencart.proofs.applies.pollencart_apply_lines.Kinds as lines-kinds
+use Rattle.pollencart.proofs.applies.pollencart_apply_lines.Reads as lines
 
-pub one-line : OneReply 4 line-kinds.ps line-kinds.r line.Post (λ κs x s. (x ∷ now (s .1 .1 .0) ∷ now (s .1 .1 .1 .0) ∷ []) ++ now (s .0))
+pub one-line :
+    OneReply 5 line-kinds.ps line-kinds.r line.Post
+    (λ κs x s. (x ∷ now (s .1 .1 .0) ∷ now (s .1 .1 .1 .0) ∷ now (s .1 .1 .1 .1 .0) ∷ []) ++ now (s .0))
 one-line κs a x y s s' p q = both (p .0) (q .0) (p .1) (q .1)
 
 pub one-lines :
-    OneReply 5 lines-kinds.ps lines-kinds.r lines.Post
-    (λ κs x s. (x ∷ now (s .1 .1 .0) ∷ now (s .1 .1 .1 .0) ∷ now (s .1 .1 .1 .1 .0) ∷ []) ++ now (s .0))
+    OneReply 6 lines-kinds.ps lines-kinds.r lines.Post
+    (λ κs x s. (x ∷ now (s .1 .1 .0) ∷ now (s .1 .1 .1 .0) ∷ now (s .1 .1 .1 .1 .0) ∷ now (s .1 .1 .1 .1 .1 .0) ∷ []) ++ now (s .0))
 one-lines κs a x y s s' p q = both (p .0) (q .0) (p .1) (q .1)

@@ -14,7 +14,7 @@ use looks::held_of;
 use looks::nodes_of;
 use meaning::Reply;
 use rows::clear;
-use rows::least_of;
+use rows::least_with;
 use rows::put_word;
 
 // The smallest entry of node p's acknowledgement row, over its n entries.
@@ -24,7 +24,7 @@ fn limit_of(t: &[u32], p: usize, n: usize) -> u32
 {
     let at = layout::acks_at(p);
     let end = at + n;
-    least_of(&t[at..end])
+    least_with(&t[at..end], 0, t[at])
 }
 
 // "Every held record whose timestamp is at most [the limit] leaves. The rest close up in their order": how many are left.

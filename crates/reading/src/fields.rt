@@ -1,12 +1,13 @@
 // The fields of a line that is accepted: the action that it holds, and one field by its place.
 ghost use mathlib.Core.Path.{_≡_};
 ghost use mathlib.Core.Bool.{true};
-ghost use Prim.Native.Nat.{_<_};
+ghost use Prim.Native.Nat.{_+_, _<_};
 ghost use lib.ListN.{length, getD};
-ghost use Rattle.meaning.specs.Frames.{bytesOf, allDigits, lineFields, actionOf, fieldsOf};
+ghost use Rattle.meaning.specs.Frames.{bytesOf, allDigits, lineFields, actionOf, fieldsOf, lineValues, readLine};
 ghost use Rattle.heads.specs.Heads.{Whole, writeAt, sessionAt, purgeAt};
 use digits::byte;
 use digits::word;
+use heads::quick;
 use meaning::Action;
 
 // The write that a line of 24 digits holds.
@@ -56,8 +57,8 @@ pub(crate) fn action(s: &[u8], kind: u8) -> Action
     }
 }
 
-// A field of a write's line by its place among the fields, 0 beyond them.
-pub(crate) fn write_field(s: &[u8], index: u32) -> u32
+// A field of a write by its place among the fields, 0 beyond them.
+fn of_write(s: &[u8], index: u32) -> u32
     requires { ⌜ (allDigits (now s) ≡ true) × (length (now s) ≡ 24) ⌝ }
     ensures { λ r. ⌜ r ≡ getD (fieldsOf (writeAt (now (s .entry)))) index 0 ⌝ }
 {
@@ -70,8 +71,8 @@ pub(crate) fn write_field(s: &[u8], index: u32) -> u32
     }
 }
 
-// A field of a session's line by its place among the fields, 0 beyond them.
-pub(crate) fn session_field(s: &[u8], index: u32) -> u32
+// A field of a session by its place among the fields, 0 beyond them.
+fn of_session(s: &[u8], index: u32) -> u32
     requires { ⌜ (allDigits (now s) ≡ true) × (length (now s) ≡ 26) ⌝ }
     ensures { λ r. ⌜ r ≡ getD (fieldsOf (sessionAt (now (s .entry)))) index 0 ⌝ }
 {
@@ -85,13 +86,39 @@ pub(crate) fn session_field(s: &[u8], index: u32) -> u32
     }
 }
 
-// The one field of a start's or a purge's line, 0 beyond it.
-pub(crate) fn short_field(s: &[u8], index: u32) -> u32
-    requires { ⌜ (allDigits (now s) ≡ true) × (length (now s) ≡ 6) ⌝ }
-    ensures { λ r. ⌜ r ≡ getD (fieldsOf (purgeAt (now (s .entry)))) index 0 ⌝ }
+// The field at a place of a line of 24 characters, 0 where it is refused.
+pub(crate) fn write_field(s: &[u8], index: u32) -> u32
+    requires { ⌜ length (now s) ≡ 24 ⌝ }
+    ensures { λ r. ⌜ r ≡ getD (lineValues (readLine 0 (now (s .entry)))) (3 + index) 0 ⌝ }
 {
-    match index {
-        0 => byte(s, 1) as u32,
-        _ => 0,
+    if !quick::is_write(s) {
+        return 0;
     }
+    of_write(s, index)
+}
+
+// The field at a place of a line of 26 characters, 0 where it is refused.
+pub(crate) fn session_field(s: &[u8], index: u32) -> u32
+    requires { ⌜ length (now s) ≡ 26 ⌝ }
+    ensures { λ r. ⌜ r ≡ getD (lineValues (readLine 0 (now (s .entry)))) (3 + index) 0 ⌝ }
+{
+    if !quick::is_session(s) {
+        return 0;
+    }
+    of_session(s, index)
+}
+
+// The field at a place of a line shorter than a write's, 0 where it is refused.
+pub(crate) fn short_field(s: &[u8], index: u32) -> u32
+    requires { ⌜ length (now s) < 24 ⌝ }
+    ensures { λ r. ⌜ r ≡ getD (lineValues (readLine 0 (now (s .entry)))) (3 + index) 0 ⌝ }
+{
+    let held = quick::short_held(s);
+    if quick::NO_LINE <= held {
+        return 0;
+    }
+    if index != 0 {
+        return 0;
+    }
+    held % 256
 }

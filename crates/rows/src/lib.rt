@@ -3,7 +3,7 @@
 ghost use mathlib.Core.Path.{_≡_};
 ghost use mathlib.Core.List.{[], _∷_};
 ghost use Prim.Native.Nat.{_+_, _≤_, _<_};
-ghost use lib.ListN.{length, replicate};
+ghost use lib.ListN.{length, replicate, set};
 ghost use Rattle.meaning.specs.Rows.{least, raise};
 ghost use Rattle.meaning.specs.Table.{place};
 
@@ -20,16 +20,18 @@ fn max_of(x: u32, y: u32) -> u32
     if x <= y { y } else { x }
 }
 
-// The smallest entry of a row.
-pub fn least_of(row: &[u32]) -> u32
-    requires { ⌜ 0 < length (now row) ⌝ }
-    ensures { λ r. ⌜ r ≡ least (now (row .entry)) ⌝ }
+// The smallest entry of a row in which the word at i is v. The row is read as it stands: one that was written just before would be read more slowly.
+pub fn least_with(row: &[u32], i: usize, v: u32) -> u32
+    requires { ⌜ i < length (now row) ⌝ }
+    ensures { λ r. ⌜ r ≡ least (set (now (row .entry)) i v) ⌝ }
 {
-    let mut low = row[0];
-    let mut i: usize = 1;
-    while i < row.len() {
-        low = min_of(low, row[i]);
-        i += 1;
+    let mut low = v;
+    let mut k: usize = 0;
+    while k < row.len() {
+        if k != i {
+            low = min_of(low, row[k]);
+        }
+        k += 1;
     }
     low
 }

@@ -10,7 +10,7 @@ use borrow.Author.Tests.{leb-true, eq-eqb, ne-eqb}
 use Rattle.meaning.specs.declared.Step.{Step}
 use Rattle.meaning.specs.declared.Next.the-variants.{Begin as BeginAt, Act as ActAt, Refused as RefusedAt, End}
 use Rattle.meaning.specs.declared.Outcome.{Outcome}
-use Rattle.meaning.specs.declared.Outcome.the-variants.{Bad, Done}
+use Rattle.meaning.specs.declared.Outcome.the-variants.{Bad, Refused, Done}
 use Rattle.meaning.specs.declared.Progress.{Progress}
 use Rattle.meaning.specs.Table.{tableWords, nodesMost, countRight, fresh, madeFresh, Sound}
 use Rattle.meaning.specs.Journals.{Journal, broken, nextAt, stepsFrom, journal, afterAll, outcomeOf, replayed, startedFrom, replayAfter}
@@ -38,18 +38,19 @@ module _ (s : List ℕ) (from n : ℕ) {x : Progress} {t′ : List ℕ} (a : App
   ran-done z =
       record { outcome = rw (number-is ∙ z) (ap (λ (y : Progress). Done n (y .steps) (y .refused)) (a .answer)); table = a .table }
 
-  bad-at : (k : ℕ) → begunAt n s from .rest .badNumber ≡ k → 0 < k → Bad (x .steps + 2) k ≡ outcomeOf k (begunAt n s from)
+  bad-at : (k : ℕ) → begunAt n s from .rest .badNumber ≡ k → 0 < k → Bad (x .steps + 2) k (x .place) ≡ outcomeOf k (begunAt n s from)
   bad-at zero e h = absurd (omega arith)
   bad-at (suc k) e h =
       let steps = ap (λ (y : Progress). y .steps) (a .answer) in
       let line = bad-line (length s) s from 2 (omega (arith, e)) in
       let l : x .steps + 2 ≡ begunAt n s from .rest .badLine = omega (arith, steps, line) in
-      rw l
+      rw l (ap (λ (y : Progress). Bad (begunAt n s from .rest .badLine) (suc k) (y .place)) (a .answer))
 
-  pub ran-bad : (x .number ≡ 0 → ⊥) → RanFrom s from n (Bad (x .steps + 2) (x .number)) t′
+  pub ran-bad : (x .number ≡ 0 → ⊥) → RanFrom s from n (Bad (x .steps + 2) (x .number) (x .place)) t′
   ran-bad z =
       let h : 0 < begunAt n s from .rest .badNumber = omega (arith, number-is) in
-      record { outcome = ap (Bad (x .steps + 2)) (sym number-is) ∙ bad-at (begunAt n s from .rest .badNumber) refl h; table = a .table }
+      let number = ap (λ k. Bad (x .steps + 2) k (x .place)) (sym number-is) in
+      record { outcome = number ∙ bad-at (begunAt n s from .rest .badNumber) refl h; table = a .table }
 
 -- a fresh table is made, and is sound
 pub made-fresh : (t : List ℕ) (n : ℕ) → length t ≡ tableWords → countRight n ≡ true → madeFresh t n ≡ fresh n
@@ -63,7 +64,7 @@ right-sound n c =
     fresh-sound n (leb-true 2 n low) (leb-true n nodesMost high)
 
 -- a run over a table of the wrong length, and of the right one
-pub run-wrong : (t s : List ℕ) → (length t ≡ tableWords → ⊥) → Ran s t (Bad 0 1) t
+pub run-wrong : (t s : List ℕ) → (length t ≡ tableWords → ⊥) → Ran s t (Refused 1) t
 unfolding runOutcome runAfter
 run-wrong t s h =
     let e = ne-eqb (length t) tableWords h in
@@ -80,15 +81,15 @@ pub begin-is : (s : List ℕ) {n next : ℕ} → nextAt s 0 1 ≡ BeginAt n next
 unfolding journal
 begin-is s e = rw (e, journal)
 
-pub act-is : (s : List ℕ) {x : Step} {next : ℕ} → nextAt s 0 1 ≡ ActAt x next → journal s ≡ record { n = 0; rest = broken 0 1 15 }
+pub act-is : (s : List ℕ) {x : Step} {next : ℕ} → nextAt s 0 1 ≡ ActAt x next → journal s ≡ record { n = 0; rest = broken 0 1 15 0 }
 unfolding journal
 act-is s e = rw (e, journal)
 
-pub refused-is : (s : List ℕ) {k : ℕ} → nextAt s 0 1 ≡ RefusedAt k → journal s ≡ record { n = 0; rest = broken 0 1 k }
+pub refused-is : (s : List ℕ) {k p : ℕ} → nextAt s 0 1 ≡ RefusedAt k p → journal s ≡ record { n = 0; rest = broken 0 1 k p }
 unfolding journal
 refused-is s e = rw (e, journal)
 
-pub end-is : (s : List ℕ) → nextAt s 0 1 ≡ End → journal s ≡ record { n = 0; rest = broken 0 1 15 }
+pub end-is : (s : List ℕ) → nextAt s 0 1 ≡ End → journal s ≡ record { n = 0; rest = broken 0 1 15 0 }
 unfolding journal
 end-is s e = rw (e, journal)
 
@@ -106,15 +107,15 @@ run-begun t s {n} {next} l e c x =
           sym (ap (λ (y : Journal). afterAll (startedFrom (y .n) t) (y .rest .steps)) j) ∙ w .1;
     }
 
-pub run-broken : (t s : List ℕ) {k : ℕ} → length t ≡ tableWords → journal s ≡ record { n = 0; rest = broken 0 1 k } → 0 < k → Ran s t (Bad 1 k) t
+pub run-broken : (t s : List ℕ) {k p : ℕ} → length t ≡ tableWords → journal s ≡ record { n = 0; rest = broken 0 1 k p } → 0 < k → Ran s t (Bad 1 k p) t
 unfolding replayed replayAfter
-run-broken t s {k} l j h =
+run-broken t s {k} {p} l j h =
     let w = run-right t s l in
     record {
       outcome = bad k h ∙ sym (ap (λ (x : Journal). outcomeOf (x .rest .badNumber) x) j) ∙ w .0;
       table = sym (after-none t) ∙ sym (ap (λ (x : Journal). afterAll (startedFrom (x .n) t) (x .rest .steps)) j) ∙ w .1;
     }
   where
-    bad : (i : ℕ) → 0 < i → Bad 1 i ≡ outcomeOf i (record { n = 0; rest = broken 0 1 i })
+    bad : (i : ℕ) → 0 < i → Bad 1 i p ≡ outcomeOf i (record { n = 0; rest = broken 0 1 i p })
     bad zero z = absurd (omega arith)
     bad (suc i) z = refl

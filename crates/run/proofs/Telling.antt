@@ -12,7 +12,7 @@ use Rattle.meaning.specs.declared.Step.{Step}
 use Rattle.meaning.specs.declared.Next.{Next}
 use Rattle.meaning.specs.declared.Next.the-variants.{Begin as BeginAt, Act as ActAt, Refused as RefusedAt, End}
 use Rattle.meaning.specs.declared.Outcome.{Outcome}
-use Rattle.meaning.specs.declared.Outcome.the-variants.{Bad}
+use Rattle.meaning.specs.declared.Outcome.the-variants.{Refused}
 use Rattle.meaning.specs.Table.{tableWords, nodesMost, count, countRight, fresh, place}
 use Rattle.meaning.specs.Steps.{after}
 use Rattle.meaning.specs.Journals.{Journal, nextAt, journal, afterAll, outcomeOf, replayed, replayAfter, printed, replayText}
@@ -39,7 +39,7 @@ begun-or-bad s = go (nextAt s 0 1) refl
     go : (x : Next) → nextAt s 0 1 ≡ x → (countRight (journal s .n) ≡ true) ⊎ (0 < journal s .rest .badNumber)
     go (BeginAt n next) e = inl (ap (λ (j : Journal). countRight (j .n)) (begin-is s e) ∙ begin-right true s 0 1 e)
     go (ActAt x next) e = inr (omega (arith, ap (λ (j : Journal). j .rest .badNumber) (act-is s e)))
-    go (RefusedAt k) e = inr (omega (arith, ap (λ (j : Journal). j .rest .badNumber) (refused-is s e), refused-numbered true s 0 1 k e))
+    go (RefusedAt k p) e = inr (omega (arith, ap (λ (j : Journal). j .rest .badNumber) (refused-is s e), refused-numbered true s 0 1 k p e))
     go End e = inr (omega (arith, ap (λ (j : Journal). j .rest .badNumber) (end-is s e)))
 
 -- with a start, the replay begins from the fresh table, whatever was lent
@@ -119,12 +119,12 @@ module _ (s t out : List ℕ) where
       record { shown = no-text out (rw (e, f)); table = rw (e, f) }
 
   pub replay-long : {r : ℕ} {out′ : List ℕ} → length t ≡ tableWords → textMost ≤ length out → journalMost < length s
-      → Shown out (textFor out (Bad 0 16) t) r out′ → Replayed s t out r t out′
+      → Shown out (textFor out (Refused 16) t) r out′ → Replayed s t out r t out′
   unfolding textWritten tableLeft replayText printed
   replay-long l room h d =
       let e = eq-eqb (length t) tableWords l in
       let f = le-leb textMost (length out) room in
-      let is : textFor out (Bad 0 16) t ≡ textWritten s t out = text-values out (Bad 0 16) t room refl ∙ rw (e, f, lt-ltb journalMost (length s) h) in
+      let is : textFor out (Refused 16) t ≡ textWritten s t out = text-values out (Refused 16) t room refl ∙ rw (e, f, lt-ltb journalMost (length s) h) in
       record { shown = as-text is d; table = rw (e, f, lt-leb (length s) journalMost h) }
 
   pub replay-right : {r : ℕ} {t′ out′ : List ℕ} → length t ≡ tableWords → textMost ≤ length out → length s ≤ journalMost

@@ -1,4 +1,4 @@
--- The values of a replay's outcome, by the journal: the refused line and its number, or no refusal and the three counts.
+-- The values of a replay's outcome, by the journal: the refused line, its number and place, or no refusal and the three counts.
 use mathlib.Core.Path.{_≡_, refl}
 use mathlib.Core.List.{List}
 use Prim.Native.Nat.{ℕ, zero, suc}

@@ -6,22 +6,23 @@ use Prim.Native.Nat.{ℕ, zero, suc}
 use lib.ListN.{length}
 use lib.Dec.{leb, eqb}
 use Rattle.meaning.specs.declared.Outcome.{Outcome}
-use Rattle.meaning.specs.declared.Outcome.the-variants.{Bad}
+use Rattle.meaning.specs.declared.Outcome.the-variants.{Refused as Unread}
 use Rattle.meaning.specs.Table.{tableWords, fresh}
 use Rattle.meaning.specs.Journals.{Journal, stepsFrom, afterAll, refusedOf, outcomeOf, replayed, replayAfter, printed, replayText}
 use Rattle.text.specs.Text.{Shown, textMost}
 
--- A table of the wrong length has no room for a fresh one: refusal 1, of no line, and no word is changed.
+-- A table of the wrong length has no room for a fresh one: refusal 1, of no line and at no place, and no word is changed.
 unfoldable pub runOutcome : List ℕ → List ℕ → Outcome
-runOutcome t s = cond (eqb (length t) tableWords) (replayed s) (Bad 0 1)
+runOutcome t s = cond (eqb (length t) tableWords) (replayed s) (Unread 1)
 
 unfoldable pub runAfter : List ℕ → List ℕ → List ℕ
 runAfter t s = cond (eqb (length t) tableWords) (replayAfter t s) t
 
--- Document 01's values of a journal's replay, where b is the refused line's number: that line and number, or two zeros and the three counts
+-- Document 01's values of a journal's replay, where b is the refused line's number: that line, number and place, or two zeros and the three
+-- counts
 abbrev pub journalValues : ℕ → Journal → List ℕ
 journalValues zero j = 0 ∷ 0 ∷ j .n ∷ length (j .rest .steps) ∷ refusedOf (fresh (j .n)) (j .rest .steps) ∷ []
-journalValues (suc b) j = j .rest .badLine ∷ suc b ∷ []
+journalValues (suc b) j = j .rest .badLine ∷ suc b ∷ j .rest .badPlace ∷ []
 
 -- "Number 16, only from the program: the journal exceeds 65,536 bytes."
 abbrev pub journalMost : ℕ

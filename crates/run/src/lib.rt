@@ -32,6 +32,7 @@ fn from_start(s: &[u8], from: usize, n: u32, t: &mut [u32]) -> Outcome
     Outcome::Bad {
         line: came.steps + 2,
         number: came.number,
+        place: came.place,
     }
 }
 
@@ -41,18 +42,24 @@ pub fn run(s: &[u8], t: &mut [u32]) -> Outcome
     ensures { λ r. ⌜ Ran (now (s .entry)) (now (t .entry)) r (now (t .exit)) ⌝ }
 {
     if t.len() != TABLE_WORDS {
-        return Outcome::Bad { line: 0, number: 1 };
+        return Outcome::Refused { number: 1 };
     }
     match journal::next_at(s, 0, 1) {
         Next::Begin { n, next } => from_start(s, next, n as u32, t),
         Next::Act { step: _, next: _ } => Outcome::Bad {
             line: 1,
             number: 15,
+            place: 0,
         },
-        Next::Refused { number } => Outcome::Bad { line: 1, number },
+        Next::Refused { number, place } => Outcome::Bad {
+            line: 1,
+            number,
+            place,
+        },
         Next::End => Outcome::Bad {
             line: 1,
             number: 15,
+            place: 0,
         },
     }
 }
@@ -77,14 +84,7 @@ pub fn replay(s: &[u8], t: &mut [u32], out: &mut [u8]) -> usize
         return 0;
     }
     if JOURNAL_MOST < s.len() {
-        return text::show(
-            out,
-            Outcome::Bad {
-                line: 0,
-                number: 16,
-            },
-            t,
-        );
+        return text::show(out, Outcome::Refused { number: 16 }, t);
     }
     told(s, t, out)
 }

@@ -1,41 +1,44 @@
 // Whether a table is sound. Document 01, "The table"; the definition is `sound` of specs/Table.antt.
-// The scan reads each held record once, and without a branch for each: a log's greatest origin and greatest verdict are carried along.
+// The scan reads each held record once, and without a branch for each: wrong origins are counted, and the verdicts' bits are taken together. Neither
+// waits for the record before, as a greatest word would, and so several records are looked at in one turn.
 ghost use mathlib.Core.Path.{_≡_};
-ghost use Prim.Native.Nat.{_<_, _≤_, _*_, max};
+ghost use mathlib.Core.Bool.{cond};
+ghost use Prim.Native.Nat.{_<_, _≤_, _*_};
 ghost use lib.ListN.{length};
+ghost use lib.Dec.{ltb};
 ghost use Rattle.meaning.specs.Rows.{every, recordAt};
-ghost use Rattle.meaning.specs.Table.{tableWords, nodesMost, count, recordSound, logSound, sound};
+ghost use Rattle.meaning.specs.Table.{tableWords, nodesMost, logMost, count, recordSound, logSound, sound};
 use layout::LOG_MOST;
 use layout::NODES_MOST;
 use layout::RECORD_WORDS;
 use layout::TABLE_WORDS;
 
-// The greater of two words.
-fn greater(a: u32, b: u32) -> u32
-    ensures { λ r. ⌜ r ≡ max a b ⌝ }
+// 1 for an origin that is not below n, else 0.
+fn beyond(origin: u32, n: u32) -> u32
+    ensures { λ r. ⌜ r ≡ cond (ltb origin n) 0 1 ⌝ }
 {
-    if a < b { b } else { a }
+    if origin < n { 0 } else { 1 }
 }
 
 // "every record within the held part of those logs has origin below n and verdict at most 255": the held part of one log.
 fn records_sound(w: &[u32], held: usize, n: u32) -> bool
-    requires { ⌜ (0 < n) × (length (now w) ≡ 4 * held) ⌝ }
+    requires { ⌜ (held ≤ logMost) × (length (now w) ≡ 4 * held) ⌝ }
     ensures { λ r. ⌜ r ≡ every held (λ i. recordSound n (recordAt (now (w .entry)) i)) ⌝ }
 {
-    let mut origin: u32 = 0;
+    let mut beyonds: u32 = 0;
     let mut verdict: u32 = 0;
     let mut k: usize = 0;
     while k < held {
-        origin = greater(origin, w[RECORD_WORDS * k]);
-        verdict = greater(verdict, w[RECORD_WORDS * k + 3]);
+        beyonds += beyond(w[RECORD_WORDS * k], n);
+        verdict = verdict | w[RECORD_WORDS * k + 3];
         k += 1;
     }
-    origin < n && verdict <= 255
+    beyonds == 0 && verdict <= 255
 }
 
 // The same of node p's log, with "every held number of a node below n is at most 64" before it.
 fn log_sound(t: &[u32], n: u32, p: usize) -> bool
-    requires { ⌜ (length (now t) ≡ tableWords) × (n ≡ count (now t)) × (0 < n) × (p < nodesMost) ⌝ }
+    requires { ⌜ (length (now t) ≡ tableWords) × (n ≡ count (now t)) × (p < nodesMost) ⌝ }
     ensures { λ r. ⌜ r ≡ logSound (now (t .entry)) p ⌝ }
 {
     let held = layout::held_of(t, p) as usize;
@@ -49,7 +52,7 @@ fn log_sound(t: &[u32], n: u32, p: usize) -> bool
 
 // The same of every node's log.
 fn logs_sound(t: &[u32], n: u32) -> bool
-    requires { ⌜ (length (now t) ≡ tableWords) × (n ≡ count (now t)) × (0 < n) × (n ≤ nodesMost) ⌝ }
+    requires { ⌜ (length (now t) ≡ tableWords) × (n ≡ count (now t)) × (n ≤ nodesMost) ⌝ }
     ensures { λ r. ⌜ r ≡ every n (logSound (now (t .entry))) ⌝ }
 {
     let nodes = n as usize;

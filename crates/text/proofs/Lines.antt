@@ -7,17 +7,21 @@ use native.Mathlib.Omega.{arith}
 use borrow.Author.Tests.{le-leb, lt-leb}
 use lib.ListN.{length}
 use Rattle.meaning.specs.declared.Outcome.{Outcome}
-use Rattle.meaning.specs.declared.Outcome.the-variants.{Bad, Done}
+use Rattle.meaning.specs.declared.Outcome.the-variants.{Bad, Refused, Done}
 use Rattle.meaning.specs.Rows.{ascii}
 use Rattle.meaning.specs.Journals.{outcomeValues, spaced, said, printed}
 use Rattle.printing.specs.Wrote.{Wrote}
 use Rattle.printing.proofs.Writing.{spaced-more}
-use Rattle.text.specs.Text.{Shown, badLine, firstLine, printedOf, textMost, hasNodes, textFor}
+use Rattle.text.specs.Text.{Shown, badLine, unreadLine, firstLine, printedOf, textMost, hasNodes, textFor}
 
 -- the whole text by its parts
-pub bad-is : (line k : ℕ) → (ascii "BAD" ++ spaced (line ∷ [])) ++ (spaced (k ∷ []) ++ (10 ∷ [])) ≡ badLine line k
+pub bad-is : (line k p : ℕ) → (ascii "BAD" ++ spaced (line ∷ [])) ++ (spaced (k ∷ []) ++ (spaced (p ∷ []) ++ (10 ∷ []))) ≡ badLine line k p
 unfolding said
-bad-is line k = simp (spaced-more (line ∷ []) k, append-assoc)
+bad-is line k p = simp (spaced-more (line ∷ k ∷ []) p, spaced-more (line ∷ []) k, append-assoc)
+
+pub unread-is : (k : ℕ) → (ascii "BAD" ++ spaced (0 ∷ [])) ++ (spaced (k ∷ []) ++ (10 ∷ [])) ≡ unreadLine k
+unfolding said
+unread-is k = simp (spaced-more (0 ∷ []) k, append-assoc)
 
 pub first-is : (n steps refused : ℕ)
     → (ascii "N" ++ spaced (n ∷ [])) ++ ((ascii " STEPS" ++ spaced (steps ∷ [])) ++ ((ascii " REFUSED" ++ spaced (refused ∷ [])) ++ (10 ∷ []))) ≡
@@ -28,7 +32,8 @@ first-is n steps refused = refl
 -- what is written is what document 01 prints: an outcome's text goes by its values
 pub printed-values : (x : Outcome) (t : List ℕ) → printed x t ≡ printedOf (outcomeValues x) t
 unfolding printed
-printed-values (Bad line k) t = refl
+printed-values (Bad line k p) t = refl
+printed-values (Refused k) t = refl
 printed-values (Done n steps refused) t = simp append-assoc
 
 pub text-values : (out : List ℕ) (x : Outcome) (t : List ℕ) → textMost ≤ length out → hasNodes x t ≡ true → textFor out x t ≡ printed x t
@@ -48,8 +53,11 @@ pub text-whole : (out : List ℕ) (x : Outcome) (t : List ℕ) → textMost ≤ 
 unfolding textFor
 text-whole out x t h e = rw (le-leb textMost (length out) h, e)
 
-pub text-bad : (out : List ℕ) (line k : ℕ) (t : List ℕ) → textMost ≤ length out → badLine line k ≡ textFor out (Bad line k) t
-text-bad out line k t h = text-whole out (Bad line k) t h refl
+pub text-bad : (out : List ℕ) (line k p : ℕ) (t : List ℕ) → textMost ≤ length out → badLine line k p ≡ textFor out (Bad line k p) t
+text-bad out line k p t h = text-whole out (Bad line k p) t h refl
+
+pub text-unread : (out : List ℕ) (k : ℕ) (t : List ℕ) → textMost ≤ length out → unreadLine k ≡ textFor out (Refused k) t
+text-unread out k t h = text-whole out (Refused k) t h refl
 
 -- a text written from place 0 is the whole answer
 pub whole : {t t′ : List ℕ} {r : ℕ} {text : List ℕ} {most : ℕ} → most ≤ length t → most ≤ textMost → Wrote t 0 text most r t′

@@ -6,31 +6,39 @@ use Prim.Native.Nat.{ℕ, _≤_}
 use lib.ListN.{length, getD}
 use lib.Dec.{leb, eqb}
 use Rattle.meaning.specs.declared.Outcome.{Outcome}
-use Rattle.meaning.specs.declared.Outcome.the-variants.{Bad, Done}
+use Rattle.meaning.specs.declared.Outcome.the-variants.{Bad, Refused, Done}
 use Rattle.meaning.specs.Rows.{ascii}
 use Rattle.meaning.specs.Table.{tableWords, nodesMost, count, place}
 use Rattle.meaning.specs.Journals.{outcomeValues, said, nodeLines}
 
--- "`BAD line number`"
-abbrev pub badLine : ℕ → ℕ → List ℕ
-badLine line number = said "BAD" (line ∷ number ∷ []) ++ ascii "\n"
+-- "`BAD line number`", and the place "as a third number after `BAD`"
+abbrev pub badLine : ℕ → ℕ → ℕ → List ℕ
+badLine line number place = said "BAD" (line ∷ number ∷ place ∷ []) ++ ascii "\n"
+
+-- no line: "16 has none"
+abbrev pub unreadLine : ℕ → List ℕ
+unreadLine number = said "BAD" (0 ∷ number ∷ []) ++ ascii "\n"
 
 -- "the first line is `N`, the count, `STEPS`, all step lines, `REFUSED`, those refused"
 abbrev pub firstLine : ℕ → ℕ → ℕ → List ℕ
 firstLine n steps refused = said "N" (n ∷ []) ++ (said " STEPS" (steps ∷ []) ++ (said " REFUSED" (refused ∷ []) ++ ascii "\n"))
 
--- The text of an outcome by its values: the line and the number of a refused line, or after two zeros the three counts, and then the nodes
+-- The text of an outcome by its values: no line and a number; a refused line, its number and place; or after two zeros the three counts, and then
+-- the nodes
 abbrev pub printedOf : List ℕ → List ℕ → List ℕ
 printedOf vs t =
-    cond (eqb (length vs) 2) (badLine (getD vs 0 0) (getD vs 1 0)) (firstLine (getD vs 2 0) (getD vs 3 0) (getD vs 4 0) ++ nodeLines (getD vs 2 0) t)
+    cond (eqb (length vs) 2) (unreadLine (getD vs 1 0))
+    (cond (eqb (length vs) 3) (badLine (getD vs 0 0) (getD vs 1 0) (getD vs 2 0))
+    (firstLine (getD vs 2 0) (getD vs 3 0) (getD vs 4 0) ++ nodeLines (getD vs 2 0) t))
 
 -- Room for the text of every outcome: 79 bytes for its first line and 720 for the line of each of 16 nodes are 11,599.
 abbrev pub textMost : ℕ
 textMost = 12288
 
--- The table has the words that are printed. The text of a refused line asks for none.
+-- The table has the words that are printed. The text of a refusal asks for none.
 abbrev pub hasNodes : Outcome → List ℕ → Bool
-hasNodes (Bad line k) t = true
+hasNodes (Bad line k p) t = true
+hasNodes (Refused k) t = true
 hasNodes (Done n steps refused) t = eqb (length t) tableWords && (leb (count t) nodesMost && leb n nodesMost)
 
 -- A text was written from place 0 of the buffer out, which is then out′; r is its length, for which there is room.

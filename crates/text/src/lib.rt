@@ -7,7 +7,7 @@ ghost use Rattle.meaning.specs.Table.{nodesMost};
 ghost use Rattle.meaning.specs.Journals.{nodeLines};
 ghost use Rattle.printing.specs.Wrote.{Wrote};
 ghost use Rattle.nodelines.specs.Nodes.{Nodes};
-ghost use Rattle.text.specs.Text.{Shown, badLine, firstLine, textMost, textFor};
+ghost use Rattle.text.specs.Text.{Shown, badLine, unreadLine, firstLine, textMost, textFor};
 use layout::COUNT_AT;
 use layout::NODES_MOST;
 use layout::TABLE_WORDS;
@@ -16,12 +16,23 @@ use meaning::Outcome;
 // Room for the text of every outcome.
 pub const TEXT_MOST: usize = 12288;
 
-// "`BAD line number`"
-fn bad_line(out: &mut [u8], line: usize, number: u32) -> usize
+// "`BAD line number`", and the place "as a third number"
+fn bad_line(out: &mut [u8], line: usize, number: u32, place: usize) -> usize
     requires { ⌜ textMost ≤ length (now out) ⌝ }
-    ensures { λ r. ⌜ Wrote (now (out .entry)) 0 (badLine line number) 46 r (now (out .exit)) ⌝ }
+    ensures { λ r. ⌜ Wrote (now (out .entry)) 0 (badLine line number place) 67 r (now (out .exit)) ⌝ }
 {
     let a = printing::said_one(out, 0, b"BAD", line);
+    let b = printing::entry(out, a, number as usize);
+    let c = printing::entry(out, b, place);
+    printing::put(out, c, b'\n')
+}
+
+// A refusal that has neither line nor place: "16 has none".
+fn unread_line(out: &mut [u8], number: u32) -> usize
+    requires { ⌜ textMost ≤ length (now out) ⌝ }
+    ensures { λ r. ⌜ Wrote (now (out .entry)) 0 (unreadLine number) 46 r (now (out .exit)) ⌝ }
+{
+    let a = printing::said_one(out, 0, b"BAD", 0);
     let b = printing::entry(out, a, number as usize);
     printing::put(out, b, b'\n')
 }
@@ -72,7 +83,12 @@ pub fn show(out: &mut [u8], outcome: Outcome, t: &[u32]) -> usize
         return 0;
     }
     match outcome {
-        Outcome::Bad { line, number } => bad_line(out, line, number),
+        Outcome::Bad {
+            line,
+            number,
+            place,
+        } => bad_line(out, line, number, place),
+        Outcome::Refused { number } => unread_line(out, number),
         Outcome::Done { n, steps, refused } => done_text(out, n, steps, refused, t),
     }
 }

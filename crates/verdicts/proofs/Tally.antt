@@ -2,12 +2,12 @@
 use mathlib.Core.Path.{_≡_, refl, sym, ap, _∙_}
 use mathlib.Core.Bool.{Bool, true, false, _&&_, cond, and-true}
 use mathlib.Core.List.{List, []}
-use Prim.Native.Nat.{ℕ, zero, suc, _+_, _*_, _/_, _^_, _<_, _≤_}
+use Prim.Native.Nat.{ℕ, zero, suc, _+_, _*_, _/_, _<_, _≤_}
 use native.Mathlib.Numerals.{add-one}
 use native.Mathlib.Omega.{arith}
-use borrow.Author.Tests.{le-leb, lt-leb, leb-true, leb-false}
+use borrow.Author.Tests.{le-leb, lt-leb}
 use lib.ListN.{length, getD, length-append}
-use lib.Bits.{bitOr, or-lt, or-add-and, and-le-l, and-le-r}
+use lib.Bits.{bitOr}
 use lib.Dec.{leb}
 use Rattle.meaning.specs.declared.Record.{Record}
 use Rattle.meaning.specs.declared.Class.the-variants.{NotRead, PageCache, PlatterGood, PlatterBad, Repaired}
@@ -16,6 +16,7 @@ use Rattle.meaning.specs.Refusals.{first}
 use Rattle.meaning.specs.Rows.{every, keep, keepIf, recordAt, records}
 use Rattle.meaning.specs.Table.{logMost}
 use Rattle.meaning.specs.Verdicts.{classOf, isScrubbed, isTouched, scrubbed, touched, counted, verdictCount}
+use Rattle.meaning.proofs.BitLaws.{or-byte}
 use Rattle.meaning.proofs.RowLaws.{keep-append, keep-one}
 use Rattle.meaning.proofs.SoundLaws.{every-none, every-more}
 use Rattle.meaning.proofs.VerdictLaws.{class-1, class-6, whole-refusal}
@@ -57,17 +58,6 @@ module _ (v : ℕ) where
 
   pub touched-above : 0x4f < v → false ≡ isTouched (classOf v)
   touched-above l = ap isTouched (class-6 v l)
-
--- the bits of two numbers make a byte if both numbers are bytes
-or-byte : (a b : ℕ) → leb (bitOr a b) 255 ≡ (leb a 255 && leb b 255)
-or-byte a b = go (leb a 255) (leb b 255) refl refl
-  where
-    go : (p q : Bool) → leb a 255 ≡ p → leb b 255 ≡ q → leb (bitOr a b) 255 ≡ (p && q)
-    go true true hp hq =
-        let low : bitOr a b < 2 ^ 8 = or-lt 8 a b (omega (arith, leb-true a 255 hp)) (omega (arith, leb-true b 255 hq)) in
-        le-leb (bitOr a b) 255 (omega arith)
-    go true false hp hq = lt-leb (bitOr a b) 255 (omega (arith, leb-false b 255 hq, or-add-and a b, and-le-l a b))
-    go false q hp hq = lt-leb (bitOr a b) 255 (omega (arith, leb-false a 255 hp, or-add-and a b, and-le-r a b))
 
 moved : (a b c : Bool) → ((a && b) && c) ≡ (a && (c && b))
 moved false b c = refl

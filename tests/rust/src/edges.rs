@@ -4,6 +4,7 @@
 use crate::account::Account;
 use crate::layout::{NODES, WORDS};
 use crate::library::{Calls, Library, TEXT};
+use crate::lines::LINE_ANSWERS;
 use crate::model::{count, fresh, read, replay, Action, Table};
 
 fn write(node: u8, timestamp: u32) -> Action {
@@ -67,27 +68,62 @@ fn all_steps(library: &mut Library) -> Result<(), String> {
     steps(library, "the largest timestamp", two(), &largest)
 }
 
-/// Lines with their refusal.
-const LINES: [(&[u8], u32); 9] = [
-    (b"0002FE", 0),
-    (b"0002FF", 13),
-    (b"0002fe", 12),
-    (b"", 11),
-    (b"000", 11),
-    (b"0001FF", 15),
-    (b"0100000000050000001010DA", 0),
-    (b"020001000000060000000403F0", 0),
-    (b"0300FD", 0),
+/// Lines with their refusal and its place, both sides of each edge.
+const LINES: [(&[u8], u32, u32); 36] = [
+    (b"0002FE", 0, 0),
+    (b"0010F0", 0, 0),
+    (b"0100000000050000001010DA", 0, 0),
+    (b"020001000000060000000403F0", 0, 0),
+    (b"0300FD", 0, 0),
+    // 12: a character that is no digit, at the first, a middle and the last place; before every other fault
+    (b"0002fe", 12, 4),
+    (b"0002FE ", 12, 6),
+    (b"f002FE", 12, 0),
+    (b"01000000000500f0001010DA", 12, 14),
+    (b"0100000000050000001010Da", 12, 23),
+    (b"x", 12, 0),
+    (b"00020", 18, 5),
+    (b"0002G", 12, 4),
+    // 18: none, or odd in number
+    (b"", 18, 0),
+    (b"0", 18, 1),
+    (b"000", 18, 3),
+    (b"040", 18, 3),
+    // 11: an unknown kind, whatever its length and sum
+    (b"04", 11, 0),
+    (b"0400FC", 11, 0),
+    (b"0400FF", 11, 0),
+    (b"FF0001", 11, 0),
+    // 19: a purge of 4 and 8 digits, a write of 22, 26 and 28, a session of 24, a kind alone
+    (b"03", 19, 2),
+    (b"0300", 19, 4),
+    (b"0300FD00", 19, 6),
+    (b"01000000000500000010FA", 19, 22),
+    (b"0100000000050000001010DA00", 19, 24),
+    (b"0100000000050000001010DA0000", 19, 24),
+    (b"0200010000000600000004F0", 19, 24),
+    // 20: an outcome of 3, 4 and 255, before the sum
+    (b"020001000000060000000404EF", 20, 22),
+    (b"020001000000060000000404F0", 20, 22),
+    (b"0200010000000600000004FFF4", 20, 22),
+    // 13: a wrong sum, before a start's n
+    (b"0002FF", 13, 4),
+    (b"0100000000050000001010DB", 13, 22),
+    (b"020001000000060000000403F1", 13, 24),
+    // 15: a start's n is not 2 to 16
+    (b"0001FF", 15, 0),
+    (b"0011EF", 15, 0),
 ];
 
 fn all_lines(library: &mut Library) -> Result<(), String> {
     let mut calls = Calls::default();
-    LINES.iter().for_each(|(line, _)| calls.line(line));
+    LINES.iter().for_each(|(line, ..)| calls.line(line));
     let mut answers = library.run(&calls).ok_or("the library was killed")?;
-    for (line, should) in LINES {
-        let is = answers.words(10)[0];
-        if is != should || read(line).err().unwrap_or(0) != should {
-            return Err(format!("line \"{}\" should say {should}, the library says {is}", line.escape_ascii()));
+    for (line, number, place) in LINES {
+        let is = &answers.words(LINE_ANSWERS)[..2];
+        let model = read(line).err().map_or([0, 0], |fault| [fault.number, fault.place as u32]);
+        if is != [number, place] || model != [number, place] {
+            return Err(format!("line \"{}\" should say {number} at {place}, the library says {is:?}, the model {model:?}", line.escape_ascii()));
         }
     }
     Ok(())
@@ -118,7 +154,7 @@ pub const JOURNALS: [&[u8]; 5] = [SAMPLE, b"", b"\n", b"0002FE\n", b"0002FE"];
 
 fn all_journals(library: &mut Library) -> Result<(), String> {
     let long = vec![b'0'; 65_537];
-    for (journal, printed) in [(SAMPLE, PRINTED), (b"", "BAD 1 15\n"), (b"0002FE\n\n0300FD", "BAD 2 11\n"), (&long, "BAD 0 16\n"), (&long[1..], "BAD 1 14\n")] {
+    for (journal, printed) in [(SAMPLE, PRINTED), (b"", "BAD 1 15 0\n"), (b"0002FE\n\n0300FD", "BAD 2 18 0\n"), (b"0002FE\n0300FD\n0300", "BAD 3 14 4\n"), (b"0300FD\n", "BAD 1 15 0\n"), (&long, "BAD 0 16\n"), (&long[1..], "BAD 1 14 65536\n")] {
         let mut calls = Calls::default();
         calls.replay(journal, WORDS as u32, TEXT);
         let mut answers = library.run(&calls).ok_or("the library was killed")?;

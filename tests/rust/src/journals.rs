@@ -99,6 +99,7 @@ pub fn damage(rng: &mut Random, journal: &mut Vec<Vec<u8>>) {
         9 => journal.truncate(at),
         10 => journal[at].extend_from_slice(b"0"),
         11 => journal[at] = b"0002FF\n".to_vec(),
+        12 => journal[at] = b"020001000000060000000404EF\n".to_vec(),
         _ => {}
     }
 }
@@ -115,7 +116,7 @@ fn compare(library: &mut Library, journal: &[u8], words: u32, room: u32, reached
     reached.add(&match () {
         () if nothing => "replay nothing".into(),
         () if done => "replay done".into(),
-        () => format!("replay {}", should.trim_end().rsplit(' ').next().unwrap()),
+        () => format!("replay {}", should.trim_end().split(' ').nth(2).unwrap()),
     });
     if done && journal.len() == JOURNAL {
         reached.add("replay of 65536 bytes");

@@ -2,7 +2,7 @@
 
 use crate::layout::COUNTS;
 use crate::library::{Answers, Calls, Library};
-use crate::model::{count, fields, frame, read, start_frame, Action, Frame};
+use crate::model::{count, fields, frame, read, start_frame, Action, Fault, Frame};
 use crate::random::Random;
 use crate::reached::Reached;
 use crate::shrink::shortest;
@@ -14,6 +14,9 @@ const NEAR: &[u8] = b"0123456789ABCDEF0123456789ABCDEF/:@G`abcdefg \n\r\0\x80\xF
 pub const LINES: usize = 192;
 const FRAMES: usize = 32;
 const LISTS: usize = 16;
+
+/// The answers to one line.
+pub const LINE_ANSWERS: usize = 23;
 
 pub fn action(rng: &mut Random) -> Action {
     let any = |rng: &mut Random| match rng.below(4) {
@@ -84,30 +87,33 @@ fn damaged(rng: &mut Random) -> Vec<u8> {
     line
 }
 
-/// Compares the answers to a line, which must read back as its frame.
-fn compare_line(line: &[u8], answers: &mut Answers, reached: &mut Reached) -> Result<(), String> {
-    let is = answers.words(10);
-    let mut should = vec![0; 10];
-    should[9] = 1;
+/// What the calls on a line must answer, in executor.c's order: the number and place of check; the kind; fields 0 to 5 and one far out; the number and
+/// place of read with room for seven words, and those words (they begin as A5A5A5A5); the number and place of read with room for five, and whether
+/// those words stayed; whether the line stayed.
+fn should(line: &[u8]) -> Vec<u32> {
+    const AS_LENT: u32 = 0xA5A5_A5A5;
     match read(line) {
         Ok(frame) => {
-            let (kind, fields) = fields(frame);
-            should[1] = kind;
-            should[2..2 + fields.len()].copy_from_slice(&fields);
+            let (kind, mut fields) = fields(frame);
+            fields.resize(5, 0);
+            [vec![0, 0, kind], fields.clone(), vec![0, 0, 0, 0, kind], fields, vec![AS_LENT, 17, 0, 1, 1]].concat()
         }
-        Err(refusal) => should[0] = refusal,
+        Err(Fault { number, place }) => {
+            let place = place as u32;
+            [vec![number, place], vec![0; 8], vec![number, place], vec![AS_LENT; 7], vec![number, place, 1, 1]].concat()
+        }
     }
-    reached.add(match should[0] {
-        0 => "line 0",
-        11 => "line 11",
-        12 => "line 12",
-        13 => "line 13",
-        _ => "line 15",
-    });
+}
+
+/// Compares the answers to a line, which must read back as its frame.
+fn compare_line(line: &[u8], answers: &mut Answers, reached: &mut Reached) -> Result<(), String> {
+    let is = answers.words(LINE_ANSWERS);
+    let should = should(line);
+    reached.add(&format!("line {}", should[0]));
     if is == should {
         Ok(())
     } else {
-        Err(format!("check, kind, fields 0 to 5, a field far out, line unchanged: the library says {is:?}, document 01 {should:?}"))
+        Err(format!("check and its place, kind, fields, read with its place and words: the library says {is:?}, the documents {should:?}"))
     }
 }
 

@@ -276,36 +276,55 @@ pub fn frame(action: Action) -> Result<Vec<u8>, u32> {
     Ok(line_of(&bytes))
 }
 
-/// Reads a single line without its LF: refusals 12, 11, 13 and the last clause of 15.
-pub fn read(line: &[u8]) -> Result<Frame, u32> {
+/// Why a line is refused, and "the place in the line, from 0, of the first character at fault".
+#[derive(Clone, Copy, Debug, PartialEq, Eq)]
+pub struct Fault {
+    pub number: u32,
+    pub place: usize,
+}
+
+fn fault<T>(number: u32, place: usize) -> Result<T, Fault> {
+    Err(Fault { number, place })
+}
+
+/// Reads a single line without its LF: refusals 12, 18, 11, 19, 20, 13 and the last clause of 15.
+pub fn read(line: &[u8]) -> Result<Frame, Fault> {
     let mut digits = Vec::with_capacity(line.len());
-    for &c in line {
+    for (place, &c) in line.iter().enumerate() {
         digits.push(match c {
             b'0'..=b'9' => c - b'0',
             b'A'..=b'F' => c - b'A' + 10,
-            _ => return Err(12),
+            _ => return fault(12, place),
         });
     }
     if digits.is_empty() || digits.len() % 2 != 0 {
-        return Err(11);
+        return fault(18, line.len());
     }
     let bytes: Vec<u8> = digits.chunks(2).map(|d| d[0] * 16 + d[1]).collect();
+    let due = match bytes[0] {
+        0 | 3 => 6,
+        1 => 24,
+        2 => 26,
+        _ => return fault(11, 0),
+    };
+    if line.len() != due {
+        return fault(19, line.len().min(due));
+    }
     let number = |at: usize| u32::from_be_bytes([bytes[at], bytes[at + 1], bytes[at + 2], bytes[at + 3]]);
-    let frame = match (bytes[0], line.len()) {
-        (0, 6) => Frame::Start(bytes[1]),
-        (1, 24) => Frame::Step(Action::Write { node: bytes[1], timestamp: number(2), block: number(6), verdict: bytes[10] }),
-        (2, 26) => Frame::Step(Action::Session { a: bytes[1], b: bytes[2], ca: number(3), cb: number(7), outcome: bytes[11] }),
-        (3, 6) => Frame::Step(Action::Purge { node: bytes[1] }),
-        _ => return Err(11),
+    let frame = match bytes[0] {
+        0 => Frame::Start(bytes[1]),
+        1 => Frame::Step(Action::Write { node: bytes[1], timestamp: number(2), block: number(6), verdict: bytes[10] }),
+        2 => Frame::Step(Action::Session { a: bytes[1], b: bytes[2], ca: number(3), cb: number(7), outcome: bytes[11] }),
+        _ => Frame::Step(Action::Purge { node: bytes[1] }),
     };
     if matches!(frame, Frame::Step(Action::Session { outcome, .. }) if outcome > 3) {
-        return Err(11);
+        return fault(20, 22);
     }
     if bytes.iter().fold(0u8, |s, b| s.wrapping_add(*b)) != 0 {
-        return Err(13);
+        return fault(13, line.len() - 2);
     }
     if matches!(frame, Frame::Start(n) if !COUNTS.contains(&n.into())) {
-        return Err(15);
+        return fault(15, 0);
     }
     Ok(frame)
 }
@@ -322,18 +341,19 @@ pub fn fields(frame: Frame) -> (u32, Vec<u32>) {
 }
 
 /// The line of a journal at a place, and the place after it.
-fn next_line(journal: &[u8], at: usize) -> Result<(Frame, usize), u32> {
-    let end = journal[at..].iter().position(|&c| c == b'\n').ok_or(14u32)? + at;
-    let frame = read(&journal[at..end])?;
+fn next_line(journal: &[u8], at: usize) -> Result<(Frame, usize), Fault> {
+    let left = &journal[at..];
+    let Some(length) = left.iter().position(|&c| c == b'\n') else { return fault(14, left.len()) };
+    let frame = read(&left[..length])?;
     if matches!(frame, Frame::Start(_)) == (at == 0) {
-        Ok((frame, end + 1))
+        Ok((frame, at + length + 1))
     } else {
-        Err(15)
+        fault(15, 0)
     }
 }
 
-/// The lines of a journal up to the first refused, and its refusal, 0 if there is none.
-pub fn lines(journal: &[u8]) -> (Vec<Frame>, u32) {
+/// The lines of a journal up to the first refused, and its fault if there is one.
+pub fn lines(journal: &[u8]) -> (Vec<Frame>, Option<Fault>) {
     let (mut at, mut frames) = (0, Vec::new());
     while at < journal.len() {
         match next_line(journal, at) {
@@ -341,41 +361,42 @@ pub fn lines(journal: &[u8]) -> (Vec<Frame>, u32) {
                 frames.push(frame);
                 at = next;
             }
-            Err(refusal) => return (frames, refusal),
+            Err(fault) => return (frames, Some(fault)),
         }
     }
-    let refusal = if frames.is_empty() { 15 } else { 0 };
-    (frames, refusal)
+    let empty = frames.is_empty().then_some(Fault { number: 15, place: 0 });
+    (frames, empty)
 }
 
-/// One line on a table (none: words of a wrong length): the number and the two counts. The line's refusal comes first, then 15 for
-/// a start, then the step's.
-pub fn apply_line(table: Option<&mut Table>, line: &[u8]) -> [u32; 3] {
+/// One line on a table (none: words of a wrong length): the number, the two counts and the place in the line. The line's refusal
+/// comes first, then 15 for a start, then the step's, which has no place.
+pub fn apply_line(table: Option<&mut Table>, line: &[u8]) -> [u32; 4] {
     let action = match read(line) {
-        Err(refusal) => return [refusal, 0, 0],
-        Ok(Frame::Start(_)) => return [15, 0, 0],
+        Err(Fault { number, place }) => return [number, 0, 0, place as u32],
+        Ok(Frame::Start(_)) => return [15, 0, 0, 0],
         Ok(Frame::Step(action)) => action,
     };
-    let Some(table) = table else { return [1, 0, 0] };
+    let Some(table) = table else { return [1, 0, 0, 0] };
     let reply = table.apply(action);
     match action {
-        Action::Purge { .. } => [reply.refusal, reply.removed, 0],
-        _ => [reply.refusal, reply.to_a, reply.to_b],
+        Action::Purge { .. } => [reply.refusal, reply.removed, 0, 0],
+        _ => [reply.refusal, reply.to_a, reply.to_b, 0],
     }
 }
 
-/// Many lines on a table, up to the first refused one: its number, the steps, those refused and where the reading stopped.
-pub fn apply_lines(table: Option<&mut Table>, lines: &[u8]) -> [u32; 4] {
-    let Some(table) = table.filter(|table| table.sound()) else { return [1, 0, 0, 0] };
+/// Many lines on a table, up to the first refused one: its number, the steps, those refused, where the reading stopped and the place
+/// in the line there.
+pub fn apply_lines(table: Option<&mut Table>, lines: &[u8]) -> [u32; 5] {
+    let Some(table) = table.filter(|table| table.sound()) else { return [1, 0, 0, 0, 0] };
     let (mut rest, mut steps, mut refused) = (lines, 0, 0);
-    let number = loop {
+    let (number, place) = loop {
         if rest.is_empty() {
-            break 0;
+            break (0, 0);
         }
-        let Some(end) = rest.iter().position(|&c| c == b'\n') else { break 14 };
+        let Some(end) = rest.iter().position(|&c| c == b'\n') else { break (14, rest.len()) };
         match read(&rest[..end]) {
-            Err(refusal) => break refusal,
-            Ok(Frame::Start(_)) => break 15,
+            Err(Fault { number, place }) => break (number, place),
+            Ok(Frame::Start(_)) => break (15, 0),
             Ok(Frame::Step(action)) => {
                 steps += 1;
                 refused += u32::from(table.apply(action).refusal != 0);
@@ -383,7 +404,7 @@ pub fn apply_lines(table: Option<&mut Table>, lines: &[u8]) -> [u32; 4] {
             }
         }
     };
-    [number, steps, refused, (lines.len() - rest.len()) as u32]
+    [number, steps, refused, (lines.len() - rest.len()) as u32, place as u32]
 }
 
 /// What the replay program prints for a journal, and the table that the steps before a refused line,
@@ -392,16 +413,16 @@ pub fn replay(journal: &[u8]) -> (String, Option<Table>) {
     if journal.len() > JOURNAL {
         return ("BAD 0 16\n".into(), None);
     }
-    let (frames, refusal) = lines(journal);
-    let bad = format!("BAD {} {refusal}\n", frames.len() + 1);
-    let Some(&Frame::Start(n)) = frames.first() else { return (bad, None) };
+    let (frames, fault) = lines(journal);
+    let bad = fault.map(|Fault { number, place }| format!("BAD {} {number} {place}\n", frames.len() + 1));
+    let Some(&Frame::Start(n)) = frames.first() else { return (bad.unwrap(), None) };
     let mut table = fresh(WORDS, u32::from(n)).unwrap();
     let mut refused = 0;
     for frame in &frames[1..] {
         let Frame::Step(action) = *frame else { unreachable!() };
         refused += usize::from(table.apply(action).refusal != 0);
     }
-    if refusal != 0 {
+    if let Some(bad) = bad {
         return (bad, Some(table));
     }
     let mut text = format!("N {} STEPS {} REFUSED {}\n", n, frames.len() - 1, refused);

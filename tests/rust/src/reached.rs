@@ -8,7 +8,7 @@ use std::collections::BTreeMap;
 pub struct Reached(BTreeMap<String, u64>);
 
 /// Everything that a run must have reached at least once.
-const MUST: [&str; 83] = [
+const MUST: [&str; 95] = [
     "fresh 0",
     "fresh 1",
     "write 0",
@@ -52,6 +52,9 @@ const MUST: [&str; 83] = [
     "line 12",
     "line 13",
     "line 15",
+    "line 18",
+    "line 19",
+    "line 20",
     "frame start 0",
     "frame start 15",
     "frame start 17",
@@ -70,6 +73,9 @@ const MUST: [&str; 83] = [
     "replay 14",
     "replay 15",
     "replay 16",
+    "replay 18",
+    "replay 19",
+    "replay 20",
     "replay of 65536 bytes",
     "replay with steps refused",
     "apply_line 0",
@@ -82,6 +88,9 @@ const MUST: [&str; 83] = [
     "apply_line 12",
     "apply_line 13",
     "apply_line 15",
+    "apply_line 18",
+    "apply_line 19",
+    "apply_line 20",
     "apply_lines 0",
     "apply_lines 1",
     "apply_lines 11",
@@ -89,6 +98,9 @@ const MUST: [&str; 83] = [
     "apply_lines 13",
     "apply_lines 14",
     "apply_lines 15",
+    "apply_lines 18",
+    "apply_lines 19",
+    "apply_lines 20",
     "apply_lines of none",
     "apply_lines stopped after steps",
     "apply_lines with steps refused",

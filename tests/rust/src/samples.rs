@@ -97,11 +97,8 @@ fn samples() -> Vec<(&'static str, Journal)> {
         ("example", EXAMPLE.to_vec()),
         ("fills-lags-drains", cluster()),
         ("start-only", start_frame(16)),
-        ("refused-11-empty-line", and(b"\n0300FD\n")),
-        ("refused-11-odd", and(b"03000\n")),
         ("refused-11-unknown-kind", and(&model::line_of(&[4, 0]))),
-        ("refused-11-length", and(&model::line_of(&[3, 0, 0]))),
-        ("refused-11-outcome", and(&model::line_of(&[2, 0, 1, 0, 0, 0, 5, 0, 0, 0, 5, 4]))),
+        ("refused-11-wrong-sum", and(b"0400FF\n")),
         ("refused-12-lowercase", and(b"0300fd\n")),
         ("refused-12-return", and(b"0300FD\r\n")),
         ("refused-13", and(b"0300FE\n0300FD\n")),
@@ -113,6 +110,11 @@ fn samples() -> Vec<(&'static str, Journal)> {
         ("refused-15-empty", Journal::new()),
         ("refused-14-at-limit", full),
         ("refused-16", [start_frame(3), purge(0).repeat(9362)].concat()),
+        ("refused-18-empty-line", and(b"\n0300FD\n")),
+        ("refused-18-odd", and(b"03000\n")),
+        ("refused-19-too-short", and(b"0300\n")),
+        ("refused-19-too-long", and(&model::line_of(&[3, 0, 0]))),
+        ("refused-20-outcome", and(&model::line_of(&[2, 0, 1, 0, 0, 0, 5, 0, 0, 0, 5, 4]))),
     ]
 }
 

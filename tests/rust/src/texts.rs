@@ -97,16 +97,16 @@ fn event(event: &Event, table: &mut Option<Table>, expected: &mut Vec<u32>, answ
         Event::Line(line) => {
             let said = apply_line(table.as_mut(), line);
             reached.add(&format!("apply_line {}", said[0]));
-            vec![said[0], said[1], said[2], 1]
+            [&said[..], &[1]].concat()
         }
         Event::Lines(text) => {
             let said = apply_lines(table.as_mut(), text);
             reached.add(&format!("apply_lines {}", said[0]));
             reached.when(said[0] != 0 && said[1] > 1, "apply_lines stopped after steps");
             reached.when(said[2] > 0, "apply_lines with steps refused");
-            reached.when(said == [0; 4], "apply_lines of none");
+            reached.when(said == [0; 5], "apply_lines of none");
             did = said[1] as usize;
-            vec![said[0], said[1], said[2], said[3], 0, 1]
+            [&said[..], &[0, 1]].concat()
         }
     };
     if let Some(table) = table {

@@ -1,59 +1,34 @@
--- `put_session` meets its contract: the frame, field after field.
-use Rattle.frames.proofs.WriteLaws.{put-session}
+-- `put_session` meets its contract: the frame of its bytes.
 use native.Mathlib.Omega.{arith}
+use lib.ListN.{replicate}
+use Rattle.frames.proofs.WriteLaws.{put-session}
+use borrow.Author.Needs.{needs}
 use Rattle.frames.proofs.put_session.Statement.{statement}
 use Rattle.frames.proofs.put_session.Tie as tie
 
-put-requires : tie.Need-put-requires
-put-requires c κs = omega arith
+slice-aggregate-fill-session : tie.Need-slice-aggregate-fill-session
+slice-aggregate-fill-session c = search needs
 
-put-requires-2 : tie.Need-put-requires-2
-put-requires-2 c κs = omega arith
+fill-session-requires : tie.Need-fill-session-requires
+fill-session-requires c κs = search needs
 
-put-requires-3 : tie.Need-put-requires-3
-put-requires-3 c κs = omega arith
+slice-aggregate-put-frame : tie.Need-slice-aggregate-put-frame
+slice-aggregate-put-frame c = search needs
 
-put-requires-4 : tie.Need-put-requires-4
-put-requires-4 c κs = omega arith
-
-put-requires-5 : tie.Need-put-requires-5
-put-requires-5 c κs = omega arith
-
-put-requires-6 : tie.Need-put-requires-6
-put-requires-6 c κs = omega arith
-
-finish-requires : tie.Need-finish-requires
-finish-requires c κs = omega arith
+put-frame-requires : tie.Need-put-frame-requires
+put-frame-requires c κs = search needs
 
 same-length : tie.Need-same-length
-same-length c = omega arith
+same-length c = search needs
 
 returns : tie.Need-returns
 returns c =
-    let at-finish = c .before .before in
-    let at-put6 = at-finish .before .before .before .before in
-    let at-put5 = at-put6 .before .before .before .before in
-    let at-put4 = at-put5 .before .before .before .before in
-    let at-put3 = at-put4 .before .before .before .before in
-    let at-put2 = at-put3 .before .before .before .before in
-    let at-put = at-put2 .before .before .before .before in
-    let start = at-put .before .before .before in
-    put-session (start .args .out .now) (at-put .put .last .0) (at-put2 .put2 .last .0) (at-put3 .put3 .last .0) (at-put4 .put4 .last .0)
-    (at-put5 .put5 .last .0) (at-put6 .put6 .last .0) (at-finish .finish .last .0) (at-put .put .result) (at-put2 .put2 .result)
-    (at-put3 .put3 .result) (at-put4 .put4 .result) (at-put5 .put5 .result) (at-put6 .put6 .result) (start .args .a) (start .args .b)
-    (start .args .ca) (start .args .cb) (start .args .outcome) (start .pre) (at-put .put .ensures) (at-put2 .put2 .ensures) (at-put3 .put3 .ensures)
-    (at-put4 .put4 .ensures) (at-put5 .put5 .ensures) (at-put6 .put6 .ensures) (at-finish .finish .ensures)
+    let at-frame = c .before .before in
+    let at-fill = at-frame .before .before .before .before in
+    let start = at-fill .before .before .before in
+    put-session (start .args .out .now) (at-frame .put-frame .last .0) (replicate 24 0) (at-fill .fill-session .last .0)
+    (start .args .a) (start .args .b) (start .args .ca) (start .args .cb) (start .args .outcome) (omega arith)
+    (at-fill .fill-session .ensures) (at-frame .put-frame .ensures)
 
 pub put-session-spec : {M : Type 1} → statement M
-put-session-spec =
-    tie.close
-    (tie.spec
-    put-requires
-    put-requires-2
-    put-requires-3
-    put-requires-4
-    put-requires-5
-    put-requires-6
-    finish-requires
-    same-length
-    returns)
+put-session-spec = tie.close (tie.spec slice-aggregate-fill-session fill-session-requires slice-aggregate-put-frame put-frame-requires same-length returns)

@@ -1,32 +1,53 @@
--- `put_short` meets its contract: the frame, field after field.
+-- `put_short` meets its contract: the digits of its bytes, and the LF.
 use native.Mathlib.Omega.{arith}
 use Rattle.frames.proofs.WriteLaws.{put-short}
-use native.Mathlib.Omega.{arith}
+use borrow.Author.Needs.{needs}
 use Rattle.frames.proofs.put_short.Statement.{statement}
 use Rattle.frames.proofs.put_short.Tie as tie
 
-put-requires : tie.Need-put-requires
-put-requires c κs = omega arith
+slice-aggregate-seal : tie.Need-slice-aggregate-seal
+slice-aggregate-seal c = search needs
 
-put-requires-2 : tie.Need-put-requires-2
-put-requires-2 c κs = omega arith
+seal-requires : tie.Need-seal-requires
+seal-requires c κs = search needs
 
-finish-requires : tie.Need-finish-requires
-finish-requires c κs = omega arith
+slice-aggregate-spell : tie.Need-slice-aggregate-spell
+slice-aggregate-spell c = search needs
+
+slice-aggregate-spell-2 : tie.Need-slice-aggregate-spell-2
+slice-aggregate-spell-2 c = search needs
+
+spell-requires : tie.Need-spell-requires
+spell-requires c κs = search needs
+
+slice-aggregate-put-line : tie.Need-slice-aggregate-put-line
+slice-aggregate-put-line c = search needs
+
+put-line-requires : tie.Need-put-line-requires
+put-line-requires c κs = search needs
 
 same-length : tie.Need-same-length
-same-length c = omega arith
+same-length c = search needs
 
 returns : tie.Need-returns
 returns c =
-    let at-finish = c .before .before in
-    let at-put2 = at-finish .before .before .before .before in
-    let at-put = at-put2 .before .before .before .before in
-    let start = at-put .before .before .before in
-    put-short (start .args .out .now) (at-put .put .last .0) (at-put2 .put2 .last .0) (at-finish .finish .last .0) (at-put .put .result)
-    (at-put2 .put2 .result) (start .args .kind) (start .args .n) (start .pre .0) (omega (arith, start .fits .kind)) (start .pre .1)
-    (at-put .put .ensures) (at-put2 .put2 .ensures) (at-finish .finish .ensures)
+    let at-line = c .before .before in
+    let at-spell = at-line .before .before .before .before in
+    let at-seal = at-spell .before .before .before .before in
+    let start = at-seal .before .before .before in
+    put-short (start .args .out .now) (at-line .put-line .last .0) (at-seal .seal .last .0) (at-spell .spell .last .1 .0) (start .args .kind)
+    (start .args .n) (start .pre .0) (omega (arith, start .fits .n)) (at-seal .seal .ensures) (at-spell .spell .ensures) (at-line .put-line .ensures)
 
 pub put-short-spec : {M : Type 1} → statement M
 put-short-spec =
-    tie.close (tie.spec put-requires put-requires-2 finish-requires same-length returns)
+    tie.close
+    (tie.spec
+    slice-aggregate-seal
+    seal-requires
+    slice-aggregate-spell
+    slice-aggregate-spell-2
+    spell-requires
+    slice-aggregate-put-line
+    put-line-requires
+    same-length
+    returns)

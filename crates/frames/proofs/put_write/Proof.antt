@@ -1,54 +1,34 @@
--- `put_write` meets its contract: the frame, field after field.
-use Rattle.frames.proofs.WriteLaws.{put-write}
+-- `put_write` meets its contract: the frame of its bytes.
 use native.Mathlib.Omega.{arith}
+use lib.ListN.{replicate}
+use Rattle.frames.proofs.WriteLaws.{put-write}
+use borrow.Author.Needs.{needs}
 use Rattle.frames.proofs.put_write.Statement.{statement}
 use Rattle.frames.proofs.put_write.Tie as tie
 
-put-requires : tie.Need-put-requires
-put-requires c κs = omega arith
+slice-aggregate-fill-write : tie.Need-slice-aggregate-fill-write
+slice-aggregate-fill-write c = search needs
 
-put-requires-2 : tie.Need-put-requires-2
-put-requires-2 c κs = omega arith
+fill-write-requires : tie.Need-fill-write-requires
+fill-write-requires c κs = search needs
 
-put-requires-3 : tie.Need-put-requires-3
-put-requires-3 c κs = omega arith
+slice-aggregate-put-frame : tie.Need-slice-aggregate-put-frame
+slice-aggregate-put-frame c = search needs
 
-put-requires-4 : tie.Need-put-requires-4
-put-requires-4 c κs = omega arith
-
-put-requires-5 : tie.Need-put-requires-5
-put-requires-5 c κs = omega arith
-
-finish-requires : tie.Need-finish-requires
-finish-requires c κs = omega arith
+put-frame-requires : tie.Need-put-frame-requires
+put-frame-requires c κs = search needs
 
 same-length : tie.Need-same-length
-same-length c = omega arith
+same-length c = search needs
 
 returns : tie.Need-returns
 returns c =
-    let at-finish = c .before .before in
-    let at-put5 = at-finish .before .before .before .before in
-    let at-put4 = at-put5 .before .before .before .before in
-    let at-put3 = at-put4 .before .before .before .before in
-    let at-put2 = at-put3 .before .before .before .before in
-    let at-put = at-put2 .before .before .before .before in
-    let start = at-put .before .before .before in
-    put-write (start .args .out .now) (at-put .put .last .0) (at-put2 .put2 .last .0) (at-put3 .put3 .last .0) (at-put4 .put4 .last .0)
-    (at-put5 .put5 .last .0) (at-finish .finish .last .0) (at-put .put .result) (at-put2 .put2 .result) (at-put3 .put3 .result)
-    (at-put4 .put4 .result) (at-put5 .put5 .result) (start .args .node) (start .args .timestamp) (start .args .block) (start .args .verdict)
-    (start .pre) (at-put .put .ensures) (at-put2 .put2 .ensures) (at-put3 .put3 .ensures) (at-put4 .put4 .ensures) (at-put5 .put5 .ensures)
-    (at-finish .finish .ensures)
+    let at-frame = c .before .before in
+    let at-fill = at-frame .before .before .before .before in
+    let start = at-fill .before .before .before in
+    put-write (start .args .out .now) (at-frame .put-frame .last .0) (replicate 24 0) (at-fill .fill-write .last .0)
+    (start .args .node) (start .args .timestamp) (start .args .block) (start .args .verdict) (omega arith)
+    (at-fill .fill-write .ensures) (at-frame .put-frame .ensures)
 
 pub put-write-spec : {M : Type 1} → statement M
-put-write-spec =
-    tie.close
-    (tie.spec
-    put-requires
-    put-requires-2
-    put-requires-3
-    put-requires-4
-    put-requires-5
-    finish-requires
-    same-length
-    returns)
+put-write-spec = tie.close (tie.spec slice-aggregate-fill-write fill-write-requires slice-aggregate-put-frame put-frame-requires same-length returns)

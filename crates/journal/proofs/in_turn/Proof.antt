@@ -32,7 +32,7 @@ returns-4 c =
 returns-5 : tie.Need-returns-5
 returns-5 c =
     let e = c .before .said3 .given .1 in
-    rw e (turn-refused (c .before .before .before .args .first) (c .before .before .before .args .next) _)
+    rw e (turn-refused (c .before .before .before .args .first) (c .before .before .before .args .next) _ _)
 
 pub in-turn-spec : {M : Type 1} → statement M
 in-turn-spec =

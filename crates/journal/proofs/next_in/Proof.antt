@@ -1,8 +1,10 @@
 -- `next_in` goes by what the finder found, in the order of the refusals.
 use mathlib.Core.Path.{sym, _∙_}
 use native.Mathlib.Omega.{arith}
+use lib.ListN.{length}
+use borrow.Author.Tests.{leb-false}
 use denote.Ref.{now}
-use Rattle.journal.proofs.Finding.{line-facts, next-over, next-unended, next-line}
+use Rattle.journal.proofs.Finding.{line-facts, unended-facts, next-over, next-unended, next-line}
 use borrow.Author.Needs.{needs}
 use Rattle.journal.proofs.next_in.Statement.{statement}
 use Rattle.journal.proofs.next_in.Tie as tie
@@ -15,6 +17,13 @@ enum-told c = search needs
 
 enum-told-2 : tie.Need-enum-told-2
 enum-told-2 c = search needs
+
+sub-left : tie.Need-sub-left
+sub-left c =
+    let at-find = c .before .before in
+    let a = at-find .before .before .args in
+    let f = unended-facts (now (a .s)) (a .at) (sym (at-find .find .ensures) ∙ c .enum-told2 .given .1) in
+    omega (arith, leb-false (length (now (a .s))) (a .at) (f .0))
 
 enum-known-end : tie.Need-enum-known-end
 enum-known-end c = search needs
@@ -81,6 +90,7 @@ next-in-spec =
     find-requires
     enum-told
     enum-told-2
+    sub-left
     enum-known-end
     sub-said
     part-said-start

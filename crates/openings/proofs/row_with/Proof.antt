@@ -2,18 +2,15 @@
 use mathlib.Core.Path.{_≡_, ap, _∙_}
 use mathlib.Core.List.{List}
 use Prim.Native.Nat.{ℕ, _+_, _-_}
-use native.Mathlib.Omega.{arith}
 use lib.ListN.{take, drop, set}
 use Rattle.meaning.specs.Table.{part, nodesMost}
+use Rattle.meaning.proofs.PlaceLaws.{part-lent}
 use borrow.Author.Needs.{needs}
 use Rattle.openings.proofs.row_with.Statement.{statement}
 use Rattle.openings.proofs.row_with.Tie as tie
 
 changed : (t w : List ℕ) (at i v : ℕ) → w ≡ take ((at + nodesMost) - at) (drop at t) → set w i v ≡ set (part at nodesMost t) i v
-unfolding part
-changed t w at i v e =
-    let k : (at + nodesMost) - at ≡ nodesMost = omega arith in
-    ap (λ (z : List ℕ). set z i v) (e ∙ ap (λ (m : ℕ). take m (drop at t)) k)
+changed t w at i v e = ap (λ (z : List ℕ). set z i v) (e ∙ part-lent at nodesMost t)
 
 add-end : tie.Need-add-end
 add-end c = search needs

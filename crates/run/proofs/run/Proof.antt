@@ -70,7 +70,7 @@ returns-4 c =
     let at-if = at-next .before in
     let s = at-if .before .before .before in
     let e = sym (at-next .next-at .ensures) ∙ at-number .number .given .1 in
-    run-broken (now (s .args .t)) (now (s .args .s)) (at-if .if1 .left) (refused-is (now (s .args .s)) e) (refused-numbered true (now (s .args .s)) 0 1 _ e)
+    run-broken (now (s .args .t)) (now (s .args .s)) (at-if .if1 .left) (refused-is (now (s .args .s)) e) (refused-numbered true (now (s .args .s)) 0 1 _ _ e)
 
 returns-5 : tie.Need-returns-5
 returns-5 c =

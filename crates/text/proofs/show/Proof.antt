@@ -2,7 +2,7 @@
 use native.Mathlib.Omega.{arith}
 use denote.Ref.{now}
 use Rattle.printing.proofs.Writing.{wrote-as, wrote-none}
-use Rattle.text.proofs.Lines.{text-short, text-bad, whole}
+use Rattle.text.proofs.Lines.{text-short, text-bad, text-unread, whole}
 use borrow.Author.Needs.{needs}
 use Rattle.text.proofs.show.Statement.{statement}
 use Rattle.text.proofs.show.Tie as tie
@@ -23,6 +23,12 @@ bad-line-requires c κs = search needs
 enum-known-outcome-2 : tie.Need-enum-known-outcome-2
 enum-known-outcome-2 c = search needs
 
+unread-line-requires : tie.Need-unread-line-requires
+unread-line-requires c κs = search needs
+
+enum-known-outcome-3 : tie.Need-enum-known-outcome-3
+enum-known-outcome-3 c = search needs
+
 done-text-requires : tie.Need-done-text-requires
 done-text-requires c κs = search needs
 
@@ -35,7 +41,7 @@ returns-2 c =
     let at-outcome = at-bad .before .before .before in
     let at-if1 = at-outcome .before .before in
     let s = at-if1 .before .before .before in
-    let bad = text-bad (now (s .args .out)) _ _ (now (s .args .t)) (at-if1 .if1 .left) in
+    let bad = text-bad (now (s .args .out)) _ _ _ (now (s .args .t)) (at-if1 .if1 .left) in
     rw (at-outcome .outcome .given .1) (whole {most = 12288} (at-if1 .if1 .left) (omega arith) (wrote-as bad (omega arith) (at-bad .bad-line .ensures)))
 
 same-length-2 : tie.Need-same-length-2
@@ -43,10 +49,23 @@ same-length-2 c = search needs
 
 returns-3 : tie.Need-returns-3
 returns-3 c =
+    let at-unread = c .before .before in
+    let at-outcome = at-unread .before .before .before in
+    let at-if1 = at-outcome .before .before in
+    let s = at-if1 .before .before .before in
+    let unread = text-unread (now (s .args .out)) _ (now (s .args .t)) (at-if1 .if1 .left) in
+    rw (at-outcome .outcome2 .given .1)
+    (whole {most = 12288} (at-if1 .if1 .left) (omega arith) (wrote-as unread (omega arith) (at-unread .unread-line .ensures)))
+
+same-length-3 : tie.Need-same-length-3
+same-length-3 c = search needs
+
+returns-4 : tie.Need-returns-4
+returns-4 c =
     let at-done = c .before .before in
     let at-outcome = at-done .before .before .before in
     let at-if1 = at-outcome .before .before in
-    rw (at-outcome .outcome2 .given .1) (whole (at-if1 .if1 .left) (omega arith) (at-done .done-text .ensures))
+    rw (at-outcome .outcome3 .given .1) (whole (at-if1 .if1 .left) (omega arith) (at-done .done-text .ensures))
 
 pub show-spec : {M : Type 1} → statement M
 show-spec =
@@ -56,8 +75,12 @@ show-spec =
     enum-known-outcome
     bad-line-requires
     enum-known-outcome-2
+    unread-line-requires
+    enum-known-outcome-3
     done-text-requires
     same-length
     returns-2
     same-length-2
-    returns-3)
+    returns-3
+    same-length-3
+    returns-4)

@@ -1,0 +1,2 @@
+pub mod FaultLaws
+pub mod OneReply
