@@ -242,35 +242,41 @@ fn call(api: Api, table: &mut [u32], action: Action) -> u32 {
     answer
 }
 
-/// A step on a caller's table, on copies of it that are made anew, outside the time, for each sample.
-fn step(rows: &mut Vec<Row>, name: &str, table: &Table, action: Action) {
+/// A sample of an operation on 24 copies of a table, which are made anew outside the time; it answers a refusal, which must be 0.
+fn copied(words: &[u32], mut operation: impl FnMut(&mut Vec<u32>) -> u32 + 'static) -> Box<dyn FnMut() -> f64> {
     const COPIES: usize = 24;
-    let mut words = Vec::new();
-    table.to_words(&mut words);
-    let mut samples: Vec<Box<dyn FnMut() -> f64>> = Vec::new();
-    for api in apis() {
-        let (words, mut copies) = (words.clone(), vec![words.clone(); COPIES]);
-        samples.push(Box::new(move || {
-            copies.iter_mut().for_each(|copy| copy.copy_from_slice(&words));
-            let began = Instant::now();
-            for copy in &mut copies {
-                assert_eq!(call(api, copy, black_box(action)), 0);
-            }
-            began.elapsed().as_nanos() as f64 / COPIES as f64
-        }));
-    }
-    let mut copies = vec![words.clone(); COPIES];
-    samples.push(Box::new(move || {
+    let (words, mut copies) = (words.to_vec(), vec![words.to_vec(); COPIES]);
+    Box::new(move || {
         copies.iter_mut().for_each(|copy| copy.copy_from_slice(&words));
         let began = Instant::now();
         for copy in &mut copies {
-            let mut table = Table::from_words(copy).unwrap();
-            assert_eq!(table.apply(black_box(action)).refusal, 0);
-            table.to_words(copy);
+            assert_eq!(operation(copy), 0);
         }
         began.elapsed().as_nanos() as f64 / COPIES as f64
+    })
+}
+
+/// A row on copies of a caller's table: one closure for the C libraries, one for Rust.
+fn on_copies<C>(rows: &mut Vec<Row>, name: &str, table: &Table, c: impl Fn(Api) -> C, rust: impl Fn(&mut Table) -> u32 + 'static)
+where
+    C: FnMut(&mut Vec<u32>) -> u32 + 'static,
+{
+    let mut words = Vec::new();
+    table.to_words(&mut words);
+    let mut samples: Vec<Box<dyn FnMut() -> f64>> = apis().into_iter().map(|api| copied(&words, c(api))).collect();
+    samples.push(copied(&words, move |copy| {
+        let mut table = Table::from_words(copy).unwrap();
+        let answer = rust(&mut table);
+        table.to_words(copy);
+        answer
     }));
     rows.push(Row { name: name.into(), samples });
+}
+
+/// A step on a caller's table.
+fn step(rows: &mut Vec<Row>, name: &str, table: &Table, action: Action) {
+    let c = |api: Api| move |copy: &mut Vec<u32>| call(api, copy, black_box(action));
+    on_copies(rows, name, table, c, move |table| table.apply(black_box(action)).refusal);
 }
 
 fn steps(rows: &mut Vec<Row>) {
@@ -294,38 +300,21 @@ fn steps(rows: &mut Vec<Row>) {
     step(rows, "session, 32 to each (16 nodes, 32 held)", &cluster(16, 32), session(99, 99));
 }
 
-/// A step's line applied to a caller's table, on copies as above.
+/// A step's line applied to a caller's table.
 fn line_applied(rows: &mut Vec<Row>, name: &str, table: &Table, action: Action) {
-    const COPIES: usize = 24;
-    let (mut words, mut line) = (Vec::new(), model::frame(action).unwrap());
+    let mut line = model::frame(action).unwrap();
     line.pop();
-    table.to_words(&mut words);
-    let mut samples: Vec<Box<dyn FnMut() -> f64>> = Vec::new();
-    for api in apis() {
-        let (words, line, mut copies) = (words.clone(), line.clone(), vec![words.clone(); COPIES]);
-        samples.push(Box::new(move || {
-            copies.iter_mut().for_each(|copy| copy.copy_from_slice(&words));
-            let began = Instant::now();
-            for copy in &mut copies {
-                let (mut x, mut y, mut place) = (0, 0, 0);
-                assert_eq!(unsafe { (api.apply_line)(copy.as_mut_ptr(), WORDS, black_box(line.as_ptr()), line.len(), &mut x, &mut y, &mut place) }, 0);
-                black_box((x, y, place));
-            }
-            began.elapsed().as_nanos() as f64 / COPIES as f64
-        }));
-    }
-    let mut copies = vec![words.clone(); COPIES];
-    samples.push(Box::new(move || {
-        copies.iter_mut().for_each(|copy| copy.copy_from_slice(&words));
-        let began = Instant::now();
-        for copy in &mut copies {
-            let mut table = Table::from_words(copy).unwrap();
-            assert_eq!(model::apply_line(Some(&mut table), black_box(&line))[0], 0);
-            table.to_words(copy);
+    let given = line.clone();
+    let c = |api: Api| {
+        let line = line.clone();
+        move |copy: &mut Vec<u32>| {
+            let (mut x, mut y, mut place) = (0, 0, 0);
+            let answer = unsafe { (api.apply_line)(copy.as_mut_ptr(), WORDS, black_box(line.as_ptr()), line.len(), &mut x, &mut y, &mut place) };
+            black_box((x, y, place));
+            answer
         }
-        began.elapsed().as_nanos() as f64 / COPIES as f64
-    }));
-    rows.push(Row { name: name.into(), samples });
+    };
+    on_copies(rows, name, table, c, move |table| model::apply_line(Some(table), black_box(&given))[0]);
 }
 
 /// Many lines applied to a fresh table in one call; the time is that of one line.
