@@ -2,23 +2,15 @@
  * can give, which of two comes first, lines of every shape and place, and going on after a refused line. A table stands between guard
  * words and lines between guard bytes that no call may touch, and after each call every word is compared.
  * What many steps do is compared with an independent implementation in tests/rust. */
-#include "check.h"
+#include "lent.h"
 
 #define WRITE_05 "0100000000050000001010DA" /* node 0 at 5, block 16, verdict 10 */
 #define SESSION_6_4 "020001000000060000000403F0" /* 0 with 1 at 6 and 4, both finish */
 #define PURGE_0 "0300FD"
 #define START_2 "0002FE"
 
-static uint32_t due[WORDS], lent[GUARD + WORDS + GUARD], copy[GUARD + WORDS + GUARD];
 static uint8_t bytes[GUARD + 4096 + GUARD], kept[sizeof bytes];
 static unsigned long met[2][21];
-
-static uint32_t *lend(void) {
-    for (size_t i = 0; i < LENGTH(lent); i++) lent[i] = 0xA5A5A5A5u ^ (uint32_t)(i * 0x01000193u);
-    memcpy(lent + GUARD, due, sizeof due);
-    memcpy(copy, lent, sizeof copy);
-    return lent + GUARD;
-}
 
 /* The text between guard bytes: digits, so that a reader that goes too far finds a frame. */
 static const uint8_t *text(const char *s, size_t len) {
@@ -29,8 +21,7 @@ static const uint8_t *text(const char *s, size_t len) {
 }
 
 static void stands(const char *about) {
-    memcpy(copy + GUARD, due, sizeof due);
-    expect(memcmp(copy, lent, sizeof copy) == 0, about, "the words");
+    words_stand(about);
     expect(memcmp(kept, bytes, sizeof kept) == 0, about, "the bytes");
 }
 

@@ -2,7 +2,7 @@
  * refusal number that a call can give and which of two comes first, tables that are not sound, wrong lengths, and the readers at
  * every place and beyond. A table stands between guard words that no call may touch, and after each call every word is compared.
  * No action is worked out here: tests/rust compares what steps do with an independent implementation. */
-#include "check.h"
+#include "lent.h"
 
 typedef char same_words[POLLENCART_TABLE == WORDS && POLLENCART_TEXT == TEXT && POLLENCART_JOURNAL == JOURNAL ? 1 : -1];
 
@@ -14,21 +14,7 @@ static uint32_t any(void) {
     return (uint32_t)(x >> 16);
 }
 
-/* What the lent words must be, and the lent words between two guards. */
-static uint32_t due[WORDS], lent[GUARD + WORDS + GUARD], copy[GUARD + WORDS + GUARD];
 static unsigned long met[4][7];
-
-static uint32_t *lend(void) {
-    for (size_t i = 0; i < LENGTH(lent); i++) lent[i] = 0xA5A5A5A5u ^ (uint32_t)(i * 0x01000193u);
-    memcpy(lent + GUARD, due, sizeof due);
-    memcpy(copy, lent, sizeof copy);
-    return lent + GUARD;
-}
-
-static void stands(const char *about) {
-    memcpy(copy + GUARD, due, sizeof due);
-    expect(memcmp(copy, lent, sizeof copy) == 0, about, "the words");
-}
 
 /* A call: its kind, 0 to 3, and its fields. */
 enum { FRESH, WRITE, SESSION, PURGE };
@@ -60,7 +46,7 @@ static void answers(const char *about, struct call c, size_t len, uint32_t numbe
 /* Refused: the number, zero counts, and no word changed. */
 static void refused(const char *about, struct call c, size_t len, uint32_t number) {
     answers(about, c, len, number, 0, 0);
-    stands(about);
+    words_stand(about);
 }
 
 /* A table of three among words of any kind: node 0 holds two records, node 1 one, node 2 sixty-four. */
@@ -99,7 +85,7 @@ static void writes_and_meets(void) {
         answers("a write", WRITE_OF(1, 8, 11, 12), WORDS, 0, 0, 0);
         set_record(1, 1, 1, 8, 11, 12);
         due[summary_at(1, 1)] = 8;
-        stands("a write");
+        words_stand("a write");
         answers("a session", SESSION_OF(0, 1, 6, 8, outcome), WORDS, 0, outcome & 1 ? 2 : 0, outcome & 2 ? 2 : 0);
         set_row(summary_at(0, 0), 6, 3, 9), set_row(acknowledgement_at(0, 0), 3, 2, 3);
         set_row(summary_at(1, 0), 2, 8, 9), set_row(acknowledgement_at(1, 0), 4, 2, 2);
@@ -111,7 +97,7 @@ static void writes_and_meets(void) {
             set_record(1, 2, 0, 4, 40, 16), set_record(1, 3, 0, 5, 50, 32);
             set_row(summary_at(1, 0), 6, 8, 9), set_row(acknowledgement_at(1, 0), 4, 2, 3);
         }
-        stands("a session");
+        words_stand("a session");
     }
 }
 
@@ -119,12 +105,12 @@ static void writes_and_meets(void) {
 static void purges(void) {
     fill();
     answers("a purge of none", PURGE_OF(0), WORDS, 0, 0, 0);
-    stands("a purge of none");
+    words_stand("a purge of none");
     answers("a purge", PURGE_OF(2), WORDS, 0, 14, 0);
     for (uint32_t i = 0; i < ROOM; i++)
         for (uint32_t word = 0; word < RECORD; word++) due[record_at(2, i, word)] = i < 50 ? due[record_at(2, i + 14, word)] : 0;
     due[held_at(2)] = 50;
-    stands("a purge");
+    words_stand("a purge");
 }
 
 /* Each number on the table of three, and which of two comes first. */
@@ -162,7 +148,7 @@ static void freshes(void) {
         answers("fresh", FRESH_OF(n), WORDS, 0, 0, 0);
         memset(due, 0, sizeof due);
         due[COUNT] = n;
-        stands("fresh");
+        words_stand("fresh");
     }
     fill();
     for (uint32_t n = 0; n < 2; n++) refused("fresh: few", FRESH_OF(n), WORDS, 1);
@@ -192,7 +178,7 @@ static void look(size_t len, uint32_t n) {
                 expect(pollencart_record(w, len, (uint8_t)p, at, word) == (at < held && word < RECORD ? due[record_at(p, at, word)] : 0), "record", "the word");
             }
     }
-    stands("the readers");
+    words_stand("the readers");
 }
 
 /* Each action, whatever else is wrong with it, is refused with 1. */
