@@ -1,4 +1,4 @@
--- Laws of a line's digits: a character's number, the pass over a line, the check byte's characters, and a field at a byte's place.
+-- Laws of a line's digits: a character's number, the pass over a line, and the digits' numbers.
 use mathlib.Core.Path.{_≡_, refl, sym, _∙_, ap}
 use mathlib.Core.Bool.{Bool, true, false, _&&_, cond}
 use mathlib.Core.List.{List, [], _∷_, _++_}
@@ -6,17 +6,15 @@ use Prim.Native.Nat.{ℕ, zero, suc, _+_, _-_, _*_, _/_, _%_, _≤_, _<_}
 use native.Mathlib.Omega.{arith}
 use native.Mathlib.Numerals.{add-one}
 use lib.Bits.{bitOr, or-lt}
-use lib.ListN.{length, getD, take, drop, set, length-drop, length-set}
-use lib.Seq.{take-suc, take-all, getD-drop, drop-drop, take-suc-set}
-use lib.Dec.{leb, ltb, eqb}
-use borrow.Author.Tests.{ltb-true, lt-ltb, le-ltb, leb-true, leb-false, le-leb, eqb-true, eqb-false, eq-eqb, ne-eqb}
+use lib.ListN.{length, getD, take, set, length-set}
+use lib.Seq.{take-suc, take-all, take-suc-set}
+use lib.Dec.{leb}
+use borrow.Author.Tests.{leb-true, le-leb, eq-eqb, ne-eqb}
 use borrow.Author.Count.{below-more}
-use Rattle.meaning.specs.Frames.{digit, digitValue, bytesOf, allDigits, total, number}
+use Rattle.meaning.specs.Frames.{digit, digitValue, bytesOf, allDigits, total}
 use Rattle.meaning.proofs.BitLaws.{or-left, or-right}
-use Rattle.meaning.proofs.RowLaws.{and-left, and-right}
-use Rattle.meaning.proofs.FrameLaws.{digit-none, length-bytesOf, byte-at, digits-at, digits-all, total-append, number-snoc}
-use Rattle.meaning.proofs.FrameInverses.{digitValue-digit, digit-digitValue}
-use Rattle.digits.specs.Digits.{letterValue, weigh, sumOf, valuesOf, joinedAt, isCheck, fieldAt}
+use Rattle.meaning.proofs.FrameLaws.{length-bytesOf, byte-at, digits-at, digits-all, total-append}
+use Rattle.digits.specs.Digits.{letterValue, weigh, sumOf, valuesOf}
 
 abbrev pub Digit : List ℕ → ℕ → Type 0
 Digit l i = digitValue (getD l i 0) < 16
@@ -46,14 +44,6 @@ digit-other c p = go (leb 48 c) (leb c 57) refl refl
     go true true x y = absurd (p (leb-true 48 c x) (leb-true c 57 y))
     go true false x y = refl
     go false b x y = refl
-
-pub digit-letters : (c : ℕ) → digitValue c < 16 → (48 ≤ c → c ≤ 57 → ⊥) → (65 ≤ c) × (c ≤ 70)
-digit-letters c h p = go (leb 65 c) (leb c 70) refl refl
-  where
-    go : (a b : Bool) → leb 65 c ≡ a → leb c 70 ≡ b → (65 ≤ c) × (c ≤ 70)
-    go true true x y = (leb-true 65 c x, leb-true c 70 y)
-    go true false x y = absurd (omega (arith, digit-none c p (λ u v. omega (arith, leb-false c 70 y))))
-    go false b x y = absurd (omega (arith, digit-none c p (λ u v. omega (arith, leb-false 65 c x))))
 
 -- a digit's share of the sum
 pub weigh-even : (place v : ℕ) → place % 2 ≡ 0 → weigh place v ≡ 16 * v % 256
@@ -178,122 +168,3 @@ valued-more l v n d h e p =
 
 pub valued-all : (l v : List ℕ) (n : ℕ) → n ≡ length l → Valued l v n → v ≡ valuesOf l
 valued-all l v n e p = sym (take-all n v (omega arith)) ∙ p .1 ∙ take-all n (valuesOf l) (omega (arith, length-values l))
-
--- the digit of a number
-pub digit-low : (v z : ℕ) → v < 10 → z ≡ 48 → z + v ≡ digit v
-unfolding digit
-digit-low v z h e = cc (lt-ltb v 10 h, e)
-
-pub digit-high : (v z : ℕ) → 10 ≤ v → z ≡ 55 → z + v ≡ digit v
-unfolding digit
-digit-high v z h e = cc (le-ltb v 10 h, e)
-
--- two characters that bring a sum to zero
-module _ (sum high low last : ℕ) (small : sum ≤ 512) (is : last ≡ (512 - sum) % 256) where
-  check-true : isCheck sum high low ≡ true → (high ≡ digit (last / 16)) × (low ≡ digit (last % 16))
-  unfolding isCheck
-  check-true h =
-      let both = and-right (ltb (digitValue high) 16) _ h in
-      let p = ltb-true (digitValue high) 16 (and-left (ltb (digitValue high) 16) _ h) in
-      let q = ltb-true (digitValue low) 16 (and-left (ltb (digitValue low) 16) _ both) in
-      let z = eqb-true ((sum + (16 * digitValue high + digitValue low)) % 256) 0 (and-right (ltb (digitValue low) 16) _ both) in
-      let a : digitValue high ≡ last / 16 = omega arith in
-      let b : digitValue low ≡ last % 16 = omega arith in
-      (sym (digit-digitValue high p) ∙ ap digit a, sym (digit-digitValue low q) ∙ ap digit b)
-
-  check-made : high ≡ digit (last / 16) → low ≡ digit (last % 16) → isCheck sum high low ≡ true
-  unfolding isCheck
-  check-made p q =
-      let a : digitValue high ≡ last / 16 = ap digitValue p ∙ digitValue-digit (last / 16) (omega arith) in
-      let b : digitValue low ≡ last % 16 = ap digitValue q ∙ digitValue-digit (last % 16) (omega arith) in
-      cc (
-        lt-ltb (digitValue high) 16 (omega arith),
-        lt-ltb (digitValue low) 16 (omega arith),
-        eq-eqb ((sum + (16 * digitValue high + digitValue low)) % 256) 0 (omega arith),
-      )
-
-  pub check-high : (high ≡ digit (last / 16) → ⊥) → false ≡ isCheck sum high low
-  check-high h = go (isCheck sum high low) refl
-    where
-      go : (b : Bool) → isCheck sum high low ≡ b → false ≡ b
-      go true e = absurd (h (check-true e .0))
-      go false e = refl
-
-  pub check-low : high ≡ digit (last / 16) → eqb low (digit (last % 16)) ≡ isCheck sum high low
-  check-low p = go (eqb low (digit (last % 16))) (isCheck sum high low) refl refl
-    where
-      go : (a b : Bool) → eqb low (digit (last % 16)) ≡ a → isCheck sum high low ≡ b → a ≡ b
-      go true b x y = sym (check-made p (eqb-true low (digit (last % 16)) x)) ∙ y
-      go false true x y = absurd (eqb-false low (digit (last % 16)) x (check-true y .1))
-      go false false x y = refl
-
--- what such characters are to a reader
-pub check-digits : (sum high low : ℕ) → isCheck sum high low ≡ true
-    → (digitValue high < 16) × (digitValue low < 16) × ((sum + (16 * digitValue high + digitValue low)) % 256 ≡ 0)
-unfolding isCheck
-check-digits sum high low h =
-    let both = and-right (ltb (digitValue high) 16) _ h in (
-      ltb-true (digitValue high) 16 (and-left (ltb (digitValue high) 16) _ h),
-      ltb-true (digitValue low) 16 (and-left (ltb (digitValue low) 16) _ both),
-      eqb-true ((sum + (16 * digitValue high + digitValue low)) % 256) 0 (and-right (ltb (digitValue low) 16) _ both),
-    )
-
-pub check-right : (sum high low : ℕ) → digitValue high < 16 → digitValue low < 16 → (sum + (16 * digitValue high + digitValue low)) % 256 ≡ 0
-    → isCheck sum high low ≡ true
-unfolding isCheck
-check-right sum high low p q z =
-    cc (lt-ltb (digitValue high) 16 p, lt-ltb (digitValue low) 16 q, eq-eqb ((sum + (16 * digitValue high + digitValue low)) % 256) 0 z)
-
--- a field of one byte, and one of four
-pub first-byte : (bs : List ℕ) → number (take 1 bs) ≡ getD bs 0 0
-unfolding number
-first-byte [] = refl
-first-byte (b ∷ bs) = omega arith
-
-pub byte-field : (l : List ℕ) (k : ℕ) → 2 * (k + 1) ≤ length l → 16 * digitValue (getD l (2 * k) 0) + digitValue (getD l (2 * k + 1) 0) ≡ fieldAt l k 1
-unfolding fieldAt
-byte-field l k h =
-    let here : getD (drop k (bytesOf l)) 0 0 ≡ getD (bytesOf l) (k + 0) 0 = getD-drop k (bytesOf l) 0 0 in
-    let same : k + 0 ≡ k = omega arith in
-    sym (first-byte (drop k (bytesOf l)) ∙ here ∙ ap (λ (i : ℕ). getD (bytesOf l) i 0) same ∙ byte-at l k (omega (arith, length-bytesOf l)))
-
-field-more : (l : List ℕ) (at k : ℕ) → 2 * (at + (k + 1)) ≤ length l → 256 * fieldAt l at k + fieldAt l (at + k) 1 ≡ fieldAt l at (k + 1)
-unfolding fieldAt
-field-more l at k h =
-    let long = length-bytesOf l in
-    let byte = byte-field l (at + k) (omega arith) in
-    let byte′ = byte-at l (at + k) (omega arith) in
-    let here : getD (drop at (bytesOf l)) k 0 ≡ getD (bytesOf l) (at + k) 0 = getD-drop at (bytesOf l) k 0 in
-    let room : k < length (drop at (bytesOf l)) = omega (arith, length-drop at (bytesOf l)) in
-    let bs = drop at (bytesOf l) in
-    let more : take (k + 1) bs ≡ take k bs ++ (getD bs k 0 ∷ []) = rw add-one (take-suc bs k 0 room) in
-    rw more (omega (arith, number-snoc (take k bs) (getD bs k 0)))
-
-pub field-four : (l : List ℕ) (at : ℕ) → 2 * (at + 4) ≤ length l
-    → 65536 * (256 * fieldAt l at 1 + fieldAt l (at + 1) 1) + (256 * fieldAt l (at + 2) 1 + fieldAt l (at + 3) 1) ≡ fieldAt l at 4
-field-four l at h =
-    omega (arith, field-more l at 1 (omega arith), field-more l at 2 (omega arith), field-more l at 3 (omega arith))
-
--- a field from the digits' numbers, at any byte's place and of any width
-pub joined-field : (l : List ℕ) (at w : ℕ) → 2 * (at + w) ≤ length l → joinedAt (valuesOf l) (2 * at) w ≡ fieldAt l at w
-unfolding joinedAt fieldAt number
-joined-field l at zero h = refl
-joined-field l at (suc w) h =
-    let even : 2 * at + 2 * w ≡ 2 * (at + w) = omega arith in
-    let high = value-of l (2 * (at + w)) (omega arith) in
-    let low = value-of l (2 * (at + w) + 1) (omega arith) in
-    let one : w + 1 ≡ suc w = add-one w in
-    let more : 256 * fieldAt l at w + fieldAt l (at + w) 1 ≡ fieldAt l at (suc w) = rw one at (field-more l at w (omega arith)) in
-    let byte = byte-field l (at + w) (omega arith) in
-    rw even (omega (arith, joined-field l at w (omega arith)))
-
--- a field counted from the second byte on
-bytes-after : (l : List ℕ) → bytesOf (drop 2 l) ≡ drop 1 (bytesOf l)
-unfolding bytesOf
-bytes-after [] = refl
-bytes-after (h ∷ []) = refl
-bytes-after (h ∷ (c ∷ cs)) = refl
-
-pub field-after : (l : List ℕ) (at w : ℕ) → fieldAt (drop 2 l) at w ≡ fieldAt l (1 + at) w
-unfolding fieldAt
-field-after l at w = rw (bytes-after l, drop-drop at 1 (bytesOf l)) refl

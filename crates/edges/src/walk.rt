@@ -53,7 +53,7 @@ fn step(step: Step, part: &[u8]) {
 fn refused(s: &[u8], at: usize, number: u32, place: usize) {
     say::refusal(number, place);
     io::write_all(1, b" of '");
-    io::write_all(1, journal::line(s, at));
+    io::write_all(1, finder::line(s, at));
     io::write_all(1, b"'");
 }
 

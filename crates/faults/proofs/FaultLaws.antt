@@ -36,7 +36,8 @@ use Rattle.meaning.proofs.FrameLaws.{
   count-right,
   count-wrong,
 }
-use Rattle.digits.specs.Digits.{sumOf, fieldAt, Within}
+use Rattle.digits.specs.Digits.{sumOf}
+use Rattle.numbers.specs.Numbers.{fieldAt, Within}
 use Rattle.digits.proofs.DigitLaws.{sum-right}
 use Rattle.heads.specs.Heads.{Whole}
 use Rattle.heads.proofs.FieldLaws.{kind-field, whole-at}

@@ -5,10 +5,10 @@ ghost use Rattle.meaning.specs.Table.{countRight};
 ghost use Rattle.meaning.specs.Frames.{bytesOf, outcomeHigh, startWrong};
 ghost use Rattle.heads.specs.Heads.{Whole};
 ghost use Rattle.faults.specs.Faults.{dueOf};
-use digits::byte;
+use numbers::byte;
 
-// The digits of a kind's lines, 0 for a kind that is unknown. The one place in code that holds the kinds' rows; the quick way of `heads` has a function
-// for each length that stands here.
+// The digits of a kind's lines, 0 for a kind that is unknown. The one place in code that holds the kinds' rows; `quick` has a function for each length
+// that stands here.
 pub(crate) fn length_of(kind: u8) -> usize
     ensures { λ r. ⌜ r ≡ dueOf kind ⌝ }
 {

@@ -1,4 +1,4 @@
-// Why a line is refused, and where, each clause asked in the order of documents 01 and 02 (T-01). The other way than the quick one of `heads`.
+// Why a line is refused, and where, each clause asked in the order of documents 01 and 02 (T-01). The other way than that of `quick`.
 ghost use mathlib.Core.Path.{_≡_};
 ghost use mathlib.Core.Bool.{true, not};
 ghost use mathlib.Core.List.{[], _∷_};
@@ -6,10 +6,10 @@ ghost use Prim.Native.Nat.{_%_, _<_};
 ghost use lib.ListN.{length};
 ghost use Rattle.meaning.specs.Refusals.{testAt};
 ghost use Rattle.meaning.specs.Frames.{allDigits, faultOf, lineFault};
-use digits::byte;
 use digits::stray_at;
 use digits::total;
 use meaning::Fault;
+use numbers::byte;
 
 mod kinds;
 

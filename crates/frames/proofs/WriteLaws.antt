@@ -9,7 +9,8 @@ use Rattle.meaning.specs.Table.{place, part}
 use Rattle.meaning.specs.declared.Action.the-variants.{Write, Session}
 use Rattle.meaning.specs.Frames.{spelled, highFirst, check, sealed, journalKinds, widthsIn, widths, packed, frameIn, frameOf, frame}
 use Rattle.meaning.proofs.PlaceLaws.{length-place, part-same, place-append, place-over, set-place}
-use Rattle.fields.proofs.FieldLaws.{set-next, line-of}
+use Rattle.fields.proofs.FieldLaws.{line-of}
+use Rattle.spelling.proofs.SpellLaws.{set-next}
 
 -- more bytes after those that were put
 place-next : (t₀ t t′ xs ys : List ℕ) (next : ℕ) → length xs ≡ next → next + length ys ≤ length t₀ → t ≡ place 0 xs t₀ → t′ ≡ place next ys t

@@ -10,8 +10,8 @@ ghost use Rattle.meaning.specs.Frames.{widths, packed, sealed, frameOf, frame};
 use fields::put_frame;
 use fields::put_line;
 use fields::seal;
-use fields::spell;
 use fields::split;
+use spelling::spell;
 
 // The frame of a kind with one byte, a start or a purge.
 pub fn put_short(out: &mut [u8], kind: u8, n: u8)

@@ -25,9 +25,9 @@ use Rattle.meaning.specs.Frames.{
   startWrong,
 }
 use Rattle.meaning.proofs.FrameLaws.{kind-cases}
-use Rattle.digits.specs.Digits.{fieldAt}
+use Rattle.numbers.specs.Numbers.{fieldAt}
 use Rattle.heads.specs.Heads.{Whole, writeAt, sessionAt, purgeAt}
-use Rattle.digits.proofs.DigitLaws.{first-byte}
+use Rattle.numbers.proofs.NumberLaws.{first-byte}
 
 -- the first byte is the kind
 pub kind-field : (l : List ℕ) → fieldAt l 0 1 ≡ lineKind (bytesOf l)

@@ -1,3 +1,4 @@
+pub mod CheckLaws
 pub mod FieldLaws
 pub mod HeadLaws
 pub mod OneReply

@@ -41,9 +41,13 @@ use Rattle.meaning.proofs.FrameLaws.{
   count-wrong,
 }
 use Rattle.meaning.proofs.FrameInverses.{digit-digitValue}
-use Rattle.digits.specs.Digits.{sumOf, isCheck, fieldAt}
+use Rattle.digits.specs.Digits.{sumOf}
+use Rattle.heads.specs.Heads.{isCheck}
+use Rattle.numbers.specs.Numbers.{fieldAt}
 use Rattle.meaning.proofs.BitLaws.{or-left, or-right}
-use Rattle.digits.proofs.DigitLaws.{byte-field, sum-right, sum-digits, check-digits, check-right}
+use Rattle.numbers.proofs.NumberLaws.{byte-field}
+use Rattle.digits.proofs.DigitLaws.{sum-right, sum-digits}
+use Rattle.heads.proofs.CheckLaws.{check-digits, check-right}
 use Rattle.heads.specs.Heads.{accepted, shortOf, mayHold, isOutcome}
 use Rattle.heads.proofs.FieldLaws.{kind-lengths, start-test, start-other, outcome-test, outcome-other}
 use Rattle.heads.proofs.HeadLaws.{accepted-good, accepted-is, accepted-not, six}

@@ -10,8 +10,9 @@ use Rattle.meaning.specs.declared.Action.the-variants.{Write, Session, Purge}
 use Rattle.meaning.specs.declared.Line.the-variants.{Begin, Act}
 use Rattle.meaning.specs.Frames.{bytesOf, journalKinds, widthsIn, actionOf, lineKind, lineFields, readLine}
 use Rattle.meaning.proofs.FrameLaws.{Good, clear, read-begin, read-act}
-use Rattle.digits.specs.Digits.{sumOf, valuesOf, joinedAt, fieldAt}
-use Rattle.digits.proofs.DigitLaws.{joined-field, field-after}
+use Rattle.digits.specs.Digits.{sumOf, valuesOf}
+use Rattle.numbers.specs.Numbers.{joinedAt, fieldAt}
+use Rattle.numbers.proofs.NumberLaws.{joined-field, field-after}
 use Rattle.heads.specs.Heads.{shortOf, writeAt, sessionAt}
 use Rattle.heads.proofs.FieldLaws.{fieldsFrom, line-fields, action-write, action-session, action-purge}
 use Rattle.heads.proofs.QuickLaws.{write-is, write-good, session-is, session-good, field-small, short-tells}

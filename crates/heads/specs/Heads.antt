@@ -1,15 +1,15 @@
--- What the functions over a line answer: whether it is accepted, what a short line holds, and the actions by the places of their fields.
+-- What the functions over a line answer: whether it is accepted, what a short line holds, its check byte, and the actions by the places of their fields.
 use mathlib.Core.Path.{_≡_}
 use mathlib.Core.Bool.{Bool, true, _&&_, _||_, cond}
 use mathlib.Core.List.{List}
-use Prim.Native.Nat.{ℕ, _+_, _*_}
+use Prim.Native.Nat.{ℕ, _+_, _*_, _%_}
 use lib.ListN.{length}
-use lib.Dec.{leb, eqb}
+use lib.Dec.{leb, ltb, eqb}
 use Rattle.meaning.specs.declared.Action.{Action}
 use Rattle.meaning.specs.declared.Action.the-variants.{Write, Session, Purge}
 use Rattle.meaning.specs.Table.{countRight}
-use Rattle.meaning.specs.Frames.{bytesOf, allDigits, known, digitsOf, lineKind, lineRefusal}
-use Rattle.digits.specs.Digits.{fieldAt}
+use Rattle.meaning.specs.Frames.{digitValue, bytesOf, allDigits, known, digitsOf, lineKind, lineRefusal}
+use Rattle.numbers.specs.Numbers.{fieldAt}
 
 -- whether a line is accepted
 unfoldable pub accepted : List ℕ → Bool
@@ -18,6 +18,11 @@ accepted l = eqb (lineRefusal l) 0
 -- what an accepted line of six characters holds, 256 times its kind and its field; 1024 for any other line
 unfoldable pub shortOf : List ℕ → ℕ
 shortOf l = cond (accepted l) (256 * lineKind (bytesOf l) + fieldAt l 1 1) 1024
+
+-- two characters are digits, and their byte brings this sum to zero
+unfoldable pub isCheck : ℕ → ℕ → ℕ → Bool
+isCheck sum high low =
+    ltb (digitValue high) 16 && (ltb (digitValue low) 16 && eqb ((sum + (16 * digitValue high + digitValue low)) % 256) 0)
 
 -- a purge, told by its kind's second character, may have any field, a start 2 to 16
 unfoldable pub mayHold : ℕ → ℕ → Bool

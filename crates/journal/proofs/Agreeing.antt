@@ -1,24 +1,15 @@
--- The part, the place and the answer at one place of a journal agree, and a part that is handed back is one part of the caller's journal.
-use mathlib.Core.Path.{_≡_, refl, sym, ap₂, _∙_}
+-- The part, the place and the answer at one place of a journal agree.
+use mathlib.Core.Path.{_≡_, refl, sym}
 use mathlib.Core.List.{List, []}
 use Prim.Native.Nat.{ℕ, _-_, _≤_, _<_}
 use native.Mathlib.Omega.{arith}
 use lib.Dec.{eqb}
 use lib.ListN.{getD, take, drop}
-use denote.Ref.{RefT}
 use Rattle.meaning.specs.declared.Next.{Next}
 use Rattle.meaning.specs.declared.Next.the-variants.{Begin, Act, Refused, End}
 use Rattle.meaning.specs.Journals.{lineAt, nextAt, handedBack, position}
-use Rattle.journal.specs.Parts.{Part, partAt, positionAt}
-use Rattle.journal.proofs.Finding.{Passed, begun, acted}
-
--- what a program sees of a part: the memory, the place and the bytes
-abbrev pub seen : RefT (List ℕ) → (ℕ × ℕ) × List ℕ
-seen r = (r .ptr, r .now)
-
-pub one-part : {s : RefT (List ℕ)} {at : ℕ} {bytes : List ℕ} {x y : RefT (List ℕ)} → Part s at bytes x → Part s at bytes y → seen x ≡ seen y
-one-part p q =
-    ap₂ (λ (u : ℕ × ℕ) (l : List ℕ). (u, l)) (ap₂ (λ (i j : ℕ). (i, j)) (p .memory ∙ sym (q .memory)) (p .place ∙ sym (q .place))) (p .is ∙ sym (q .is))
+use Rattle.journal.specs.Read.{partAt, positionAt}
+use Rattle.journal.proofs.Passing.{Passed, begun, acted}
 
 -- the part is what stands between the position before and the position after, less the LF
 pub record Agree (s : List ℕ) (at : ℕ) (part : List ℕ) (after : ℕ) : Type 0 where

@@ -1,4 +1,4 @@
-pub mod Finding
 pub mod Agreeing
-pub mod Values
 pub mod OneReply
+pub mod Passing
+pub mod Values

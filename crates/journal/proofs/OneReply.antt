@@ -2,11 +2,7 @@
 -- A part that is handed back is settled in the place at which it stands and in its bytes.
 use mathlib.Core.Path.{sym, _∙_}
 use Rattle.meaning.proofs.OneReply.{OneReply, OneResult}
-use Rattle.journal.proofs.Agreeing.{seen, one-part}
-use Rattle.journal.proofs.find.Kinds as find-kinds
-use Rattle.journal.proofs.find.Reads as find
-use Rattle.journal.proofs.line.Kinds as line-kinds
-use Rattle.journal.proofs.line.Reads as line
+use Rattle.finder.proofs.OnePart.{seen, one-part}
 use Rattle.journal.proofs.next_at.Kinds as next-at-kinds
 use Rattle.journal.proofs.next_at.Reads as next-at
 use Rattle.journal.proofs.next_in.Kinds as next-in-kinds
@@ -17,12 +13,6 @@ use Rattle.journal.proofs.part_at.Kinds as part-at-kinds
 use Rattle.journal.proofs.part_at.Reads as part-at
 use Rattle.journal.proofs.position_at.Kinds as position-at-kinds
 use Rattle.journal.proofs.position_at.Reads as position-at
-
-pub one-find : OneResult 1 find-kinds.ps find-kinds.r find.Post
-one-find κs a x y s s' p q = p ∙ sym q
-
-pub one-line : OneReply 1 line-kinds.ps line-kinds.r line.Post (λ κs x s. seen x)
-one-line κs a x y s s' p q = one-part p q
 
 pub one-next-at : OneResult 1 next-at-kinds.ps next-at-kinds.r next-at.Post
 one-next-at κs a x y s s' p q = p ∙ sym q

@@ -1,8 +1,8 @@
--- The values of what the finder and the reader answer, by place and bytes.
+-- The values of what the reader answers, by place and bytes.
 use mathlib.Core.Path.{_≡_, refl, sym}
 use mathlib.Core.Bool.{Bool, true, false, cond}
 use mathlib.Core.List.{List, [], _∷_, _++_}
-use Prim.Native.Nat.{ℕ, zero, suc, _+_}
+use Prim.Native.Nat.{ℕ, zero, suc}
 use lib.ListN.{length, drop}
 use lib.Dec.{leb, eqb}
 use Rattle.meaning.specs.declared.Action.{Action}
@@ -12,19 +12,7 @@ use Rattle.meaning.specs.declared.Line.the-variants.{Begin, Act, Refused}
 use Rattle.meaning.specs.declared.Next.the-variants.{Refused as RefusedAt, End}
 use Rattle.meaning.specs.Frames.{kindOf, fieldsOf, readLine, lineValues}
 use Rattle.meaning.specs.Journals.{unended, lineAt, placeAfter, inTurn, nextIn, nextAt, nextValues}
-use Rattle.journal.specs.Found.{foundAt, foundValues, turnValues, readValues}
-use Rattle.journal.specs.declared.Found.the-variants.{Line as Ended, Unended, Over}
-
-pub found-values : (s : List ℕ) (at : ℕ)
-    → foundValues (foundAt s at) ≡ cond (leb (length s) at) (0 ∷ []) (cond (unended s at) (14 ∷ []) (0 ∷ (at + length (lineAt s at)) ∷ []))
-unfolding foundAt
-found-values s at = go (leb (length s) at) (unended s at)
-  where
-    go : (a b : Bool) → foundValues (cond a Over (cond b Unended (Ended (at + length (lineAt s at)))))
-        ≡ cond a (0 ∷ []) (cond b (14 ∷ []) (0 ∷ (at + length (lineAt s at)) ∷ []))
-    go true b = refl
-    go false true = refl
-    go false false = refl
+use Rattle.journal.specs.Read.{turnValues, readValues}
 
 -- a step is no start
 later-values : (next : ℕ) (x : Action) → turnValues false next (0 ∷ 0 ∷ kindOf x ∷ fieldsOf x) ≡ 0 ∷ 0 ∷ kindOf x ∷ (fieldsOf x ++ (next ∷ []))

@@ -22,7 +22,8 @@ use Rattle.meaning.proofs.Action as A
 use Rattle.meaning.proofs.Action.Laws as A′
 use Rattle.meaning.proofs.StepLaws.{verdictOf}
 use Rattle.meaning.proofs.JournalLaws.{steps-act, steps-end}
-use Rattle.turns.proofs.TurnLaws.{one-most, Taken}
+use Rattle.steplines.proofs.StepLineLaws.{one-most}
+use Rattle.turns.proofs.TurnLaws.{Taken}
 use Rattle.lines.specs.Applying.{Stepped, AppliedFrom, AppliedLines}
 
 -- an action's verdict is a byte

@@ -1,3 +1,2 @@
 pub mod Applying
 pub mod OneReply
-pub mod WordLaws

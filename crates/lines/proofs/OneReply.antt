@@ -3,18 +3,12 @@ use mathlib.Core.Path.{sym, ap₂, _∙_}
 use mathlib.Core.List.{List}
 use Prim.Native.Nat.{ℕ}
 use denote.Ref.{now}
-use Rattle.meaning.specs.declared.Answer.{Answer}
 use Rattle.meaning.specs.declared.Progress.{Progress}
 use Rattle.meaning.proofs.OneReply.{OneReply}
-use Rattle.lines.proofs.apply_line.Kinds as apply-line-kinds
-use Rattle.lines.proofs.apply_line.Reads as apply-line
 use Rattle.lines.proofs.apply_lines.Kinds as apply-lines-kinds
 use Rattle.lines.proofs.apply_lines.Reads as apply-lines
 use Rattle.lines.proofs.apply_from.Kinds as apply-from-kinds
 use Rattle.lines.proofs.apply_from.Reads as apply-from
-
-pub one-line : OneReply 2 apply-line-kinds.ps apply-line-kinds.r apply-line.Post {R = Answer × List ℕ} (λ κs x s. (x, now (s .0)))
-one-line κs a x y s s' p q = ap₂ (λ (r : Answer) (t : List ℕ). (r, t)) (p .0 ∙ sym (q .0)) (p .1 ∙ sym (q .1))
 
 pub one-lines : OneReply 2 apply-lines-kinds.ps apply-lines-kinds.r apply-lines.Post {R = Progress × List ℕ} (λ κs x s. (x, now (s .0)))
 one-lines κs a x y s s' p q = ap₂ (λ (r : Progress) (t : List ℕ). (r, t)) (p .0 ∙ sym (q .0)) (p .1 ∙ sym (q .1))

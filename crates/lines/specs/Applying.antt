@@ -4,17 +4,11 @@ use mathlib.Core.List.{List}
 use Prim.Native.Nat.{ℕ, _≤_}
 use lib.ListN.{length}
 use Rattle.meaning.specs.declared.Action.{Action}
-use Rattle.meaning.specs.declared.Reply.the-variants.{Refused}
-use Rattle.meaning.specs.declared.Answer.{Answer}
 use Rattle.meaning.specs.declared.Progress.{Progress}
 use Rattle.meaning.specs.Table.{Sound}
 use Rattle.meaning.specs.Steps.{refusal, after}
 use Rattle.meaning.specs.Journals.{oneIf, stepsFrom, afterAll}
-use Rattle.meaning.specs.Lines.{lineReply, lineAfter, progress, linesReply, linesAfter}
-
--- A line's refusal: the number, at its place in the line
-abbrev pub refusedLine : ℕ → ℕ → Answer
-refusedLine k p = record { reply = Refused k; place = p }
+use Rattle.meaning.specs.Lines.{progress, linesReply, linesAfter}
 
 -- How far lines were read: so many steps, those refused, where the reading stopped, and the refused line's number and place
 abbrev pub haltedAt : ℕ → ℕ → ℕ → ℕ → ℕ → Progress
@@ -32,9 +26,6 @@ pub record AppliedFrom (s : List ℕ) (from first : ℕ) (t : List ℕ) (r : Pro
   pub answer : r ≡ progress t (stepsFrom (length s) s from first)
   pub table : t′ ≡ afterAll t (stepsFrom (length s) s from first .steps)
 
--- One line, and many
-abbrev pub AppliedLine : List ℕ → List ℕ → Answer → List ℕ → Type 0
-AppliedLine t l r t′ = (r ≡ lineReply t l) × (t′ ≡ lineAfter t l)
-
+-- Many lines
 abbrev pub AppliedLines : List ℕ → List ℕ → Progress → List ℕ → Type 0
 AppliedLines t s r t′ = (r ≡ linesReply t s) × (t′ ≡ linesAfter t s)

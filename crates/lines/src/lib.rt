@@ -1,49 +1,17 @@
-// What lines do to a table that is there already: one line, and many, up to the first refused one. Document 01, "Frames and journals".
-// The entry points, `apply_line` and `apply_lines`, take any words and any bytes at all.
+// What lines do to a table that is there already, up to the first refused one. Document 01, "Frames and journals".
+// The entry point, `apply_lines`, takes any words and any bytes at all.
 ghost use mathlib.Core.Path.{_≡_};
 ghost use Prim.Native.Nat.{_+_, _≤_};
 ghost use lib.ListN.{length};
 ghost use Rattle.meaning.specs.Table.{Sound};
-ghost use Rattle.lines.specs.Applying.{refusedLine, haltedAt, Stepped, AppliedFrom, AppliedLine, AppliedLines};
-use meaning::Answer;
+ghost use Rattle.lines.specs.Applying.{haltedAt, Stepped, AppliedFrom, AppliedLines};
 use meaning::Next;
 use meaning::Progress;
-use meaning::Reply;
 use meaning::Step;
-use turns::UNSURE;
-use turns::count;
+use steplines::UNSURE;
+use steplines::count;
 use turns::due_at;
 use turns::turn;
-
-// A line's refusal, at its place
-fn refused(number: u32, place: usize) -> Answer
-    ensures { λ r. ⌜ r ≡ refusedLine number place ⌝ }
-{
-    Answer {
-        reply: Reply::Refused { number },
-        place,
-    }
-}
-
-// One line on any words: the line's refusal with its place, 15 for a start, or what its step reports; a refusal changes no word.
-pub fn apply_line(t: &mut [u32], line: &[u8]) -> Answer
-    ensures { λ r. ⌜ AppliedLine (now (t .entry)) (now (line .entry)) r (now (t .exit)) ⌝ }
-{
-    let mut v = [0u32; 6];
-    let fault = words::read_words(line, &mut v[..]);
-    if fault.number != 0 {
-        return refused(fault.number, fault.place);
-    }
-    if v[0] == 0 {
-        return refused(15, 0);
-    }
-    let reply = match v[0] {
-        1 => table::act::write(t, v[1] as u8, v[2], v[3], v[4] as u8),
-        2 => table::act::session(t, v[1] as u8, v[2] as u8, v[3], v[4], v[5] as u8),
-        _ => table::act::purge(t, v[1] as u8),
-    };
-    Answer { reply, place: 0 }
-}
 
 // One step on a sound table, which it leaves sound: whether it was refused.
 fn step(t: &mut [u32], x: Step) -> usize

@@ -1,1 +1,1 @@
-pub mod LineLaws
+mod LineLaws

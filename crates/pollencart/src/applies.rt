@@ -18,7 +18,7 @@ pub extern "C" fn pollencart_apply_line(
     ensures { λ r. ⌜ LineTold (now (table .entry)) (now (line .entry))
         (r ∷ now (first .exit) ∷ now (second .exit) ∷ now (place .exit) ∷ []) (now (table .exit)) ⌝ }
 {
-    let answer = lines::apply_line(table, line);
+    let answer = oneline::apply_line(table, line);
     let reply = answer.reply;
     *first = first_of(reply);
     *second = second_of(reply);

@@ -9,10 +9,6 @@ use Rattle.printing.proofs.number.Kinds as number-kinds
 use Rattle.printing.proofs.number.Reads as number
 use Rattle.printing.proofs.entry.Kinds as entry-kinds
 use Rattle.printing.proofs.entry.Reads as entry
-use Rattle.printing.proofs.said_one.Kinds as said-one-kinds
-use Rattle.printing.proofs.said_one.Reads as said-one
-use Rattle.printing.proofs.said_row.Kinds as said-row-kinds
-use Rattle.printing.proofs.said_row.Reads as said-row
 
 pub one-put : OneReply 1 put-kinds.ps put-kinds.r put.Post (λ κs x s. x ∷ now (s .0))
 one-put κs a x y s s' p q = one-wrote p q
@@ -22,9 +18,3 @@ one-number κs a x y s s' p q = one-wrote p q
 
 pub one-entry : OneReply 1 entry-kinds.ps entry-kinds.r entry.Post (λ κs x s. x ∷ now (s .0))
 one-entry κs a x y s s' p q = one-wrote p q
-
-pub one-said-one : OneReply 2 said-one-kinds.ps said-one-kinds.r said-one.Post (λ κs x s. x ∷ now (s .0))
-one-said-one κs a x y s s' p q = one-wrote p q
-
-pub one-said-row : OneReply 3 said-row-kinds.ps said-row-kinds.r said-row.Post (λ κs x s. x ∷ now (s .0))
-one-said-row κs a x y s s' p q = one-wrote p q

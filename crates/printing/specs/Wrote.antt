@@ -1,24 +1,15 @@
 -- What writing a text into a lent buffer means, and the number that decimal digits say.
 use mathlib.Core.Path.{_≡_}
-use mathlib.Core.List.{List, [], _∷_, _++_}
+use mathlib.Core.List.{List, [], _∷_}
 use Prim.Native.Nat.{ℕ, _+_, _-_, _*_, _≤_}
 use lib.ListN.{length}
 use Rattle.meaning.specs.Table.{place}
-use Rattle.meaning.specs.Journals.{spaced}
 
 -- A text of at most so many bytes was written at a place of the buffer t, which is then t′; r is the place after it.
 pub record Wrote (t : List ℕ) (at : ℕ) (text : List ℕ) (most r : ℕ) (t′ : List ℕ) : Type 0 where
   pub to : r ≡ at + length text
   pub within : r ≤ at + most
   pub is : t′ ≡ place at text t
-
--- The most bytes of a word and a row of numbers after it, each with a space before it and at most 20 digits
-abbrev pub rowMost : List ℕ → List ℕ → ℕ
-rowMost word vs = length word + 21 * length vs
-
--- A word and a row of numbers after it were written so.
-abbrev pub WroteRow : List ℕ → ℕ → List ℕ → List ℕ → ℕ → List ℕ → Type 0
-WroteRow t at word vs r t′ = Wrote t at (word ++ spaced vs) (rowMost word vs) r t′
 
 -- The number that decimal digits say, the higher ones first, after those already read
 unfoldable pub valueFrom : ℕ → List ℕ → ℕ

@@ -1,10 +1,10 @@
-// Numbers in decimal and words, printed into a lent buffer. Document 01, "Frames and journals": what the replay prints.
+// Bytes and numbers in decimal, printed into a lent buffer. Document 01, "Frames and journals": what the replay prints.
 // Each function writes at a place and answers the place after what it wrote; its caller shows that there is room.
-ghost use mathlib.Core.List.{[], _∷_, _++_};
-ghost use Prim.Native.Nat.{_+_, _*_, _≤_};
+ghost use mathlib.Core.List.{[], _∷_};
+ghost use Prim.Native.Nat.{_+_, _≤_};
 ghost use lib.ListN.{length};
 ghost use Rattle.meaning.specs.Journals.{decimalIn, decimal, spaced};
-ghost use Rattle.printing.specs.Wrote.{Wrote, WroteRow, rowMost};
+ghost use Rattle.printing.specs.Wrote.{Wrote};
 
 // One byte.
 pub fn put(out: &mut [u8], at: usize, b: u8) -> usize
@@ -45,50 +45,4 @@ pub fn entry(out: &mut [u8], at: usize, v: usize) -> usize
 {
     let next = put(out, at, b' ');
     number(out, next, v)
-}
-
-// A row of numbers, each with a space before it.
-fn row(out: &mut [u8], at: usize, vs: &[u32]) -> usize
-    requires { ⌜ at + 21 * length (now vs) ≤ length (now out) ⌝ }
-    ensures { λ r. ⌜ Wrote (now (out .entry)) at (spaced (now (vs .entry))) (21 * length (now (vs .entry))) r (now (out .exit)) ⌝ }
-{
-    let mut next = at;
-    let mut i = 0;
-    while i < vs.len() {
-        next = entry(out, next, vs[i] as usize);
-        i += 1;
-    }
-    next
-}
-
-// A word, byte for byte.
-fn word(out: &mut [u8], at: usize, w: &[u8]) -> usize
-    requires { ⌜ at + length (now w) ≤ length (now out) ⌝ }
-    ensures { λ r. ⌜ Wrote (now (out .entry)) at (now (w .entry)) (length (now (w .entry))) r (now (out .exit)) ⌝ }
-{
-    let mut next = at;
-    let mut i = 0;
-    while i < w.len() {
-        next = put(out, next, w[i]);
-        i += 1;
-    }
-    next
-}
-
-// A word and one number after it.
-pub fn said_one(out: &mut [u8], at: usize, w: &[u8], v: usize) -> usize
-    requires { ⌜ at + (length (now w) + 21) ≤ length (now out) ⌝ }
-    ensures { λ r. ⌜ Wrote (now (out .entry)) at (now (w .entry) ++ spaced (v ∷ [])) (length (now (w .entry)) + 21) r (now (out .exit)) ⌝ }
-{
-    let next = word(out, at, w);
-    entry(out, next, v)
-}
-
-// A word and a row of numbers after it.
-pub fn said_row(out: &mut [u8], at: usize, w: &[u8], vs: &[u32]) -> usize
-    requires { ⌜ at + rowMost (now w) (now vs) ≤ length (now out) ⌝ }
-    ensures { λ r. ⌜ WroteRow (now (out .entry)) at (now (w .entry)) (now (vs .entry)) r (now (out .exit)) ⌝ }
-{
-    let next = word(out, at, w);
-    row(out, next, vs)
 }

@@ -18,8 +18,9 @@ use denote.Triple.Entry.{Args, Res}
 use Rattle.meaning.specs.declared.Next.{Next}
 use Rattle.meaning.specs.Journals.{nextAt}
 use Rattle.meaning.proofs.OneReply.{OneReply, OneResult}
-use Rattle.journal.specs.Parts.{Part, partAt, positionAt}
-use Rattle.journal.proofs.Agreeing.{seen, one-part}
+use Rattle.finder.specs.Parts.{Part}
+use Rattle.journal.specs.Read.{partAt, positionAt}
+use Rattle.finder.proofs.OnePart.{seen, one-part}
 use Rattle.reader.specs.declared.Reader.{Reader}
 use Rattle.reader.specs.Standing.{Stands}
 use Rattle.reader.proofs.new as new

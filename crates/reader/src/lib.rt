@@ -2,7 +2,8 @@
 // Document 01, "Frames and journals". What stands last is for a caller that keeps the place and has no reader.
 ghost use mathlib.Core.Path.{_≡_};
 ghost use Rattle.meaning.specs.Journals.{nextAt};
-ghost use Rattle.journal.specs.Parts.{Part, partAt, positionAt};
+ghost use Rattle.finder.specs.Parts.{Part};
+ghost use Rattle.journal.specs.Read.{partAt, positionAt};
 ghost use Rattle.reader.specs.Standing.{Stands};
 use meaning::Next;
 

@@ -3,12 +3,9 @@ ghost use mathlib.Core.Path.{_≡_};
 ghost use Prim.Native.Nat.{_+_, _<_};
 ghost use lib.ListN.{length, getD};
 ghost use Rattle.meaning.specs.Frames.{readLine, lineFault, lineValues};
-use heads::quick;
 use meaning::Fault;
 use meaning::Line;
 use meaning::Step;
-
-mod fields;
 
 // The refusal of a single line (without its LF) and its place in it, for any bytes at all: the first that applies, of 12, 18, 11, 19, 20, 13 and
 // 15; two zeros for none. The other way is lent a part of the slice, so that the slice itself stays in registers.
@@ -31,7 +28,7 @@ fn short_kind(s: &[u8]) -> u32
     ensures { λ r. ⌜ r ≡ getD (lineValues (readLine 0 (now (s .entry)))) 2 0 ⌝ }
 {
     let held = quick::short_held(s);
-    if quick::NO_LINE <= held {
+    if heads::NO_LINE <= held {
         return 0;
     }
     held / 256
@@ -56,11 +53,11 @@ pub fn field(s: &[u8], index: u32) -> u32
     ensures { λ r. ⌜ r ≡ getD (lineValues (readLine 0 (now (s .entry)))) (3 + index) 0 ⌝ }
 {
     if s.len() < 24 {
-        return fields::short_field(s, index);
+        return contents::short_field(s, index);
     }
     match s.len() {
-        24 => fields::write_field(&s[0..24], index),
-        26 => fields::session_field(&s[0..26], index),
+        24 => contents::write_field(&s[0..24], index),
+        26 => contents::session_field(&s[0..26], index),
         _ => 0,
     }
 }
@@ -79,13 +76,13 @@ pub fn read_line(s: &[u8], line: usize) -> Line
             place: fault.place,
         };
     }
-    let kind = digits::byte(s, 0);
+    let kind = numbers::byte(s, 0);
     if kind == 0 {
         return Line::Begin {
-            n: digits::byte(s, 1),
+            n: numbers::byte(s, 1),
         };
     }
-    let action = fields::action(s, kind);
+    let action = contents::action(s, kind);
     Line::Act {
         step: Step { line, action },
     }

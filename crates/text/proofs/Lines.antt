@@ -1,33 +1,17 @@
--- Laws of a replay's first line and of the whole text, by their parts.
+-- Laws of a replay's whole text, by its outcome.
 use mathlib.Core.Path.{_≡_, refl, sym}
 use mathlib.Core.Bool.{true, false}
-use mathlib.Core.List.{List, [], _∷_, _++_, append-assoc}
+use mathlib.Core.List.{List, [], append-assoc}
 use Prim.Native.Nat.{ℕ, _≤_, _<_}
 use native.Mathlib.Omega.{arith}
 use borrow.Author.Tests.{le-leb, lt-leb}
 use lib.ListN.{length}
 use Rattle.meaning.specs.declared.Outcome.{Outcome}
 use Rattle.meaning.specs.declared.Outcome.the-variants.{Bad, Refused, Done}
-use Rattle.meaning.specs.Rows.{ascii}
-use Rattle.meaning.specs.Journals.{outcomeValues, spaced, said, printed}
+use Rattle.meaning.specs.Journals.{outcomeValues, printed}
 use Rattle.printing.specs.Wrote.{Wrote}
-use Rattle.printing.proofs.Writing.{spaced-more}
-use Rattle.text.specs.Text.{Shown, badLine, unreadLine, firstLine, printedOf, textMost, hasNodes, textFor}
-
--- the whole text by its parts
-pub bad-is : (line k p : ℕ) → (ascii "BAD" ++ spaced (line ∷ [])) ++ (spaced (k ∷ []) ++ (spaced (p ∷ []) ++ (10 ∷ []))) ≡ badLine line k p
-unfolding said
-bad-is line k p = simp (spaced-more (line ∷ k ∷ []) p, spaced-more (line ∷ []) k, append-assoc)
-
-pub unread-is : (k : ℕ) → (ascii "BAD" ++ spaced (0 ∷ [])) ++ (spaced (k ∷ []) ++ (10 ∷ [])) ≡ unreadLine k
-unfolding said
-unread-is k = simp (spaced-more (0 ∷ []) k, append-assoc)
-
-pub first-is : (n steps refused : ℕ)
-    → (ascii "N" ++ spaced (n ∷ [])) ++ ((ascii " STEPS" ++ spaced (steps ∷ [])) ++ ((ascii " REFUSED" ++ spaced (refused ∷ [])) ++ (10 ∷ []))) ≡
-    firstLine n steps refused
-unfolding said
-first-is n steps refused = refl
+use Rattle.textlines.specs.TextLines.{badLine, unreadLine}
+use Rattle.text.specs.Text.{Shown, printedOf, textMost, hasNodes, textFor}
 
 -- what is written is what document 01 prints: an outcome's text goes by its values
 pub printed-values : (x : Outcome) (t : List ℕ) → printed x t ≡ printedOf (outcomeValues x) t

@@ -1,27 +1,15 @@
--- The lines of a replay's text, and what is written of it into a lent buffer. Document 01, "Frames and journals": what the replay prints.
+-- A replay's text by its lines, and what is written of it into a lent buffer. Document 01, "Frames and journals": what the replay prints.
 use mathlib.Core.Path.{_≡_}
 use mathlib.Core.Bool.{Bool, true, _&&_, cond}
-use mathlib.Core.List.{List, [], _∷_, _++_}
+use mathlib.Core.List.{List, [], _++_}
 use Prim.Native.Nat.{ℕ, _≤_}
 use lib.ListN.{length, getD}
 use lib.Dec.{leb, eqb}
 use Rattle.meaning.specs.declared.Outcome.{Outcome}
 use Rattle.meaning.specs.declared.Outcome.the-variants.{Bad, Refused, Done}
-use Rattle.meaning.specs.Rows.{ascii}
 use Rattle.meaning.specs.Table.{tableWords, nodesMost, count, place}
-use Rattle.meaning.specs.Journals.{outcomeValues, said, nodeLines}
-
--- "`BAD line number`", and the place "as a third number after `BAD`"
-abbrev pub badLine : ℕ → ℕ → ℕ → List ℕ
-badLine line number place = said "BAD" (line ∷ number ∷ place ∷ []) ++ ascii "\n"
-
--- no line: "16 has none"
-abbrev pub unreadLine : ℕ → List ℕ
-unreadLine number = said "BAD" (0 ∷ number ∷ []) ++ ascii "\n"
-
--- "the first line is `N`, the count, `STEPS`, all step lines, `REFUSED`, those refused"
-abbrev pub firstLine : ℕ → ℕ → ℕ → List ℕ
-firstLine n steps refused = said "N" (n ∷ []) ++ (said " STEPS" (steps ∷ []) ++ (said " REFUSED" (refused ∷ []) ++ ascii "\n"))
+use Rattle.meaning.specs.Journals.{outcomeValues, nodeLines}
+use Rattle.textlines.specs.TextLines.{badLine, unreadLine, firstLine}
 
 -- The text of an outcome by its values: no line and a number; a refused line, its number and place; or after two zeros the three counts, and then
 -- the nodes

@@ -1,13 +1,14 @@
-// The printed text of a replay, written into a lent buffer: its first line, and the nodes' lines of the crate `nodelines`.
-// Document 01, "Frames and journals". Each inner function writes at a place and answers the place after what it wrote.
+// The printed text of a replay, written into a lent buffer: its first line, of the crate `textlines`, and the nodes' lines, of `nodelines`.
+// Document 01, "Frames and journals". Each inner function answers the place after what it wrote.
 ghost use mathlib.Core.List.{_++_};
 ghost use Prim.Native.Nat.{_≤_};
 ghost use lib.ListN.{length};
 ghost use Rattle.meaning.specs.Table.{nodesMost};
 ghost use Rattle.meaning.specs.Journals.{nodeLines};
 ghost use Rattle.printing.specs.Wrote.{Wrote};
-ghost use Rattle.nodelines.specs.Nodes.{Nodes};
-ghost use Rattle.text.specs.Text.{Shown, badLine, unreadLine, firstLine, textMost, textFor};
+ghost use Rattle.textlines.specs.TextLines.{firstLine};
+ghost use Rattle.nodeparts.specs.Nodes.{Nodes};
+ghost use Rattle.text.specs.Text.{Shown, textMost, textFor};
 use layout::COUNT_AT;
 use layout::NODES_MOST;
 use layout::TABLE_WORDS;
@@ -16,44 +17,12 @@ use meaning::Outcome;
 // Room for the text of every outcome.
 pub const TEXT_MOST: usize = 12288;
 
-// "`BAD line number`", and the place "as a third number"
-fn bad_line(out: &mut [u8], line: usize, number: u32, place: usize) -> usize
-    requires { ⌜ textMost ≤ length (now out) ⌝ }
-    ensures { λ r. ⌜ Wrote (now (out .entry)) 0 (badLine line number place) 67 r (now (out .exit)) ⌝ }
-{
-    let a = printing::said_one(out, 0, b"BAD", line);
-    let b = printing::entry(out, a, number as usize);
-    let c = printing::entry(out, b, place);
-    printing::put(out, c, b'\n')
-}
-
-// A refusal that has neither line nor place: "16 has none".
-fn unread_line(out: &mut [u8], number: u32) -> usize
-    requires { ⌜ textMost ≤ length (now out) ⌝ }
-    ensures { λ r. ⌜ Wrote (now (out .entry)) 0 (unreadLine number) 46 r (now (out .exit)) ⌝ }
-{
-    let a = printing::said_one(out, 0, b"BAD", 0);
-    let b = printing::entry(out, a, number as usize);
-    printing::put(out, b, b'\n')
-}
-
-// "`N`, the count, `STEPS`, all step lines, `REFUSED`, those refused"
-fn first_line(out: &mut [u8], n: u32, steps: usize, refused: usize) -> usize
-    requires { ⌜ textMost ≤ length (now out) ⌝ }
-    ensures { λ r. ⌜ Wrote (now (out .entry)) 0 (firstLine n steps refused) 79 r (now (out .exit)) ⌝ }
-{
-    let a = printing::said_one(out, 0, b"N", n as usize);
-    let b = printing::said_one(out, a, b" STEPS", steps);
-    let c = printing::said_one(out, b, b" REFUSED", refused);
-    printing::put(out, c, b'\n')
-}
-
 // The text of a replay that came to its end: its first line and the nodes' lines.
 fn all_lines(out: &mut [u8], n: u32, steps: usize, refused: usize, t: &[u32]) -> usize
     requires { ⌜ Nodes (now t) × (n ≤ nodesMost) × (textMost ≤ length (now out)) ⌝ }
     ensures { λ r. ⌜ Wrote (now (out .entry)) 0 (firstLine n steps refused ++ nodeLines n (now (t .entry))) textMost r (now (out .exit)) ⌝ }
 {
-    let a = first_line(out, n, steps, refused);
+    let a = textlines::first_line(out, n, steps, refused);
     nodelines::node_lines(out, a, n as usize, t)
 }
 
@@ -87,8 +56,8 @@ pub fn show(out: &mut [u8], outcome: Outcome, t: &[u32]) -> usize
             line,
             number,
             place,
-        } => bad_line(out, line, number, place),
-        Outcome::Refused { number } => unread_line(out, number),
+        } => textlines::bad_line(out, line, number, place),
+        Outcome::Refused { number } => textlines::unread_line(out, number),
         Outcome::Done { n, steps, refused } => done_text(out, n, steps, refused, t),
     }
 }

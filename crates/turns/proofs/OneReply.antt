@@ -4,15 +4,10 @@ use mathlib.Core.List.{List}
 use Prim.Native.Nat.{ℕ}
 use denote.Ref.{now}
 use Rattle.meaning.proofs.OneReply.{OneReply, OneResult}
-use Rattle.turns.proofs.count.Kinds as count-kinds
-use Rattle.turns.proofs.count.Reads as count
 use Rattle.turns.proofs.due_at.Kinds as due-at-kinds
 use Rattle.turns.proofs.due_at.Reads as due-at
 use Rattle.turns.proofs.turn.Kinds as turn-kinds
 use Rattle.turns.proofs.turn.Reads as turn
-
-pub one-count : OneResult 0 count-kinds.ps count-kinds.r count.Post
-one-count κs a x y s s' p q = p ∙ sym q
 
 pub one-due : OneResult 1 due-at-kinds.ps due-at-kinds.r due-at.Post
 one-due κs a x y s s' p q = p ∙ sym q

@@ -1,10 +1,10 @@
--- Laws of a line's six words: what the quick way leaves in them, and what is told of fewer.
-use mathlib.Core.Path.{_≡_, refl, sym, _∙_, ap, subst}
+-- Laws of a line's six words: a start's and a purge's, those put into more, and what is told of fewer.
+use mathlib.Core.Path.{_≡_, refl, sym, _∙_, ap}
 use mathlib.Core.Bool.{Bool, true, false}
 use mathlib.Core.List.{List, [], _∷_, _++_}
-use Prim.Native.Nat.{ℕ, zero, suc, _+_, _*_, _/_, _%_, _≤_, _<_}
+use Prim.Native.Nat.{ℕ, zero, suc, _/_, _%_, _≤_, _<_}
 use native.Mathlib.Omega.{arith}
-use lib.ListN.{length, getD, take, drop, set, take-append-drop}
+use lib.ListN.{length, take, drop, take-append-drop}
 use lib.Dec.{eqb}
 use borrow.Author.Tests.{eqb-true, eqb-false}
 use Rattle.meaning.specs.declared.Fault.{Fault}
@@ -26,15 +26,13 @@ use Rattle.meaning.specs.Frames.{
   wordsFault,
   ReadWords,
 }
-use Rattle.meaning.proofs.FrameLaws.{kind-cases, good, clear, words-refused, words-few, words-full}
+use Rattle.meaning.proofs.FrameLaws.{kind-cases, words-refused, words-few, words-full}
 use Rattle.meaning.proofs.PlaceLaws.{mid-place}
-use Rattle.digits.specs.Digits.{sumOf, valuesOf, joinedAt, Joins}
-use Rattle.digits.proofs.DigitLaws.{sum-digits, length-values, values-small}
 use Rattle.heads.specs.Heads.{shortOf}
-use Rattle.heads.proofs.HeadLaws.{accepted-is, accepted-not, accepted-clear, accepted-refused}
+use Rattle.heads.proofs.HeadLaws.{accepted-clear, accepted-refused}
 use Rattle.heads.proofs.QuickLaws.{short-tells, held-six, held-kind, held-not}
-use Rattle.heads.proofs.SaidLaws.{write-line, session-line, purge-line, start-line}
-use Rattle.words.specs.Words.{writeWords, sessionWords, Puts}
+use Rattle.heads.proofs.SaidLaws.{purge-line, start-line}
+use Rattle.six.specs.Six.{Puts}
 
 -- the six values of a start and of a purge, by what the line holds
 module _ (l : List ℕ) (x : ℕ) (e : x ≡ shortOf l) (few : length l < 24) (h : x < 1024) where
@@ -60,50 +58,6 @@ module _ (l : List ℕ) (x : ℕ) (e : x ≡ shortOf l) (few : length l < 24) (h
           (λ z. absurd (two (omega arith) z))
           (λ z. ap said (at 3 z) ∙ ap (λ (y : Line). padded 6 (drop 2 (lineValues y))) (purge-line l six x e h 0 (at 3 z)))
           k has is
-
--- the six values of a write and of a session, by their digits' numbers
-pub six-write : (l v : List ℕ) → length l ≡ 24 → getD l 0 0 ≡ 48 → getD l 1 0 ≡ 49 → 0 ≡ sumOf l → v ≡ valuesOf l
-    → writeWords v ≡ sixValues l
-unfolding sixValues padded
-six-write l v long p q e f =
-    ap writeWords f
-    ∙ ap (λ (y : Line). padded 6 (drop 2 (lineValues y))) (write-line 0 l long p q e)
-
-pub six-session : (l v : List ℕ) → length l ≡ 26 → getD l 0 0 ≡ 48 → getD l 1 0 ≡ 50 → 254 ≡ sumOf (drop 2 l) → v ≡ valuesOf (drop 2 l)
-    → joinedAt v 20 1 ≤ 3 → sessionWords v ≡ sixValues l
-unfolding sixValues padded
-six-session l v long p q e f o =
-    ap sessionWords f
-    ∙ ap (λ (y : Line). padded 6 (drop 2 (lineValues y))) (session-line l long 0 p q e (rw f at o))
-
--- six words of their own
-pub six-set : (w : List ℕ) (a b c d e f : ℕ) → length w ≡ 6
-    → set (set (set (set (set (set w 0 a) 1 b) 2 c) 3 d) 4 e) 5 f ≡ a ∷ b ∷ c ∷ d ∷ e ∷ f ∷ []
-six-set (s ∷ (t ∷ (u ∷ (v ∷ (x ∷ (y ∷ [])))))) a b c d e f h = refl
-six-set [] a b c d e f h = absurd (omega arith)
-six-set (s ∷ []) a b c d e f h = absurd (omega arith)
-six-set (s ∷ (t ∷ [])) a b c d e f h = absurd (omega arith)
-six-set (s ∷ (t ∷ (u ∷ []))) a b c d e f h = absurd (omega arith)
-six-set (s ∷ (t ∷ (u ∷ (v ∷ [])))) a b c d e f h = absurd (omega arith)
-six-set (s ∷ (t ∷ (u ∷ (v ∷ (x ∷ []))))) a b c d e f h = absurd (omega arith)
-six-set (s ∷ (t ∷ (u ∷ (v ∷ (x ∷ (y ∷ (z ∷ l))))))) a b c d e f h = absurd (omega arith)
-
--- what the quick way leaves in them
-pub puts-not : (l w : List ℕ) → (lineRefusal l ≡ 0 → ⊥) → Puts l w false w
-puts-not l w h = let no = accepted-not l (λ g. h (clear l g)) in (sym no, cc (no))
-
-pub puts-is : (l w w′ : List ℕ) → lineRefusal l ≡ 0 → w′ ≡ sixValues l → Puts l w true w′
-puts-is l w w′ z e = let yes = accepted-is l (good l z) in (sym yes, e ∙ cc (yes))
-
--- digits' numbers that may be joined: those of a line whose sum is known
-pub joins-12 : (l v : List ℕ) (sum : ℕ) → length l ≡ 24 → sum ≡ sumOf l → sum < 256 → v ≡ valuesOf l → Joins v 0 12
-joins-12 l v sum long e h f =
-    let digits = sum-digits l sum e h .0 in
-    let size : length v ≡ 24 = ap length f ∙ length-values l ∙ long in
-    record { small = subst (λ (w : List ℕ). (i : ℕ) → i < length w → getD w i 0 < 16) (sym f) (values-small l digits); room = omega (arith, size) }
-
-pub joins-part : (v : List ℕ) (at w : ℕ) → Joins v 0 12 → at + 2 * w ≤ 24 → Joins v at w
-joins-part v at w p h = record { small = p .small; room = omega (arith, p .room) }
 
 -- a line's six values are six
 length-padded : (k : ℕ) (xs : List ℕ) → length (padded k xs) ≡ k

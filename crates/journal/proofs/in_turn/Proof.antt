@@ -1,5 +1,5 @@
 -- `in_turn` goes by the definition's cases.
-use Rattle.journal.proofs.Finding.{turn-refused}
+use Rattle.journal.proofs.Passing.{turn-refused}
 use borrow.Author.Needs.{needs}
 use Rattle.journal.proofs.in_turn.Statement.{statement}
 use Rattle.journal.proofs.in_turn.Tie as tie

@@ -4,7 +4,8 @@ use native.Mathlib.Omega.{arith}
 use lib.ListN.{length}
 use borrow.Author.Tests.{leb-false}
 use denote.Ref.{now}
-use Rattle.journal.proofs.Finding.{line-facts, unended-facts, next-over, next-unended, next-line}
+use Rattle.finder.proofs.Finding.{line-facts, unended-facts}
+use Rattle.journal.proofs.Passing.{next-over, next-unended, next-line}
 use borrow.Author.Needs.{needs}
 use Rattle.journal.proofs.next_in.Statement.{statement}
 use Rattle.journal.proofs.next_in.Tie as tie

@@ -6,7 +6,8 @@ use borrow.Author.Tests.{leb-false}
 use lib.Dec.{eqb}
 use lib.ListN.{length}
 use denote.Ref.{now}
-use Rattle.journal.proofs.Finding.{none-taken, begun, acted, refused-inside, end-over}
+use Rattle.finder.proofs.Finding.{none-taken}
+use Rattle.journal.proofs.Passing.{begun, acted, refused-inside, end-over}
 use Rattle.journal.proofs.part_at.Statement.{statement}
 use Rattle.journal.proofs.part_at.Tie as tie
 

@@ -9,8 +9,9 @@ use borrow.Author.Needs.{needs}
 use denote.Ref.{now}
 use borrow.Author.Tests.{leb-false}
 use Rattle.meaning.proofs.JournalLaws.{steps-begin, steps-refused}
-use Rattle.journal.proofs.Finding.{begun, acted, refused-inside}
-use Rattle.turns.proofs.TurnLaws.{unsure, taken}
+use Rattle.journal.proofs.Passing.{begun, acted, refused-inside}
+use Rattle.steplines.proofs.StepLineLaws.{unsure}
+use Rattle.turns.proofs.TurnLaws.{taken}
 use Rattle.lines.proofs.Applying.{Reached, reached-start, reached-step, reached-turn, reached-kept, reached-bad, reached-end}
 use Rattle.lines.proofs.apply_from.Statement.{statement}
 use Rattle.lines.proofs.apply_from.Tie as tie

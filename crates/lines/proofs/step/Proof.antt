@@ -3,8 +3,8 @@ use mathlib.Core.Path.{ap, _∙_}
 use denote.Ref.{now}
 use Rattle.meaning.specs.Steps.{refusal}
 use Rattle.meaning.proofs.StepLaws.{after-sound}
-use Rattle.turns.specs.Turns.{refusedBy}
-use Rattle.turns.proofs.TurnLaws.{refused-counts, one-most}
+use Rattle.steplines.specs.StepLines.{refusedBy}
+use Rattle.steplines.proofs.StepLineLaws.{refused-counts, one-most}
 use Rattle.lines.proofs.Applying.{verdict-fits}
 use borrow.Author.Needs.{needs}
 use Rattle.lines.proofs.step.Statement.{statement}

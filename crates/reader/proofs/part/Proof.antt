@@ -56,7 +56,8 @@ use denote.Triple.Table.{entered, cited}
 use denote.Triple.Walked.{says, Stays, stay-none, walkOf, goes-none, Walks, ends-at, walked, walk-meets}
 use denote.Exit.{yes}
 use denote.Triple.Clauses.{ensured, lasts}
-use Rattle.journal.specs.Parts.{Part, partAt}
+use Rattle.finder.specs.Parts.{Part}
+use Rattle.journal.specs.Read.{partAt}
 use Rattle.reader.specs.declared.Reader.{Reader}
 use Rattle.reader.proofs.Reader.Laws as T′
 use Rattle.reader.proofs.Holding.{Row, machine, D, L, Own, three, two, OnThree, OnTwo, apart}

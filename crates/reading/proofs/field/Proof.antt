@@ -7,7 +7,7 @@ use lib.ListN.{getD}
 use Rattle.meaning.specs.Frames.{lineValues, readLine}
 use Rattle.heads.proofs.HeadLaws.{whole-part}
 use Rattle.heads.proofs.QuickLaws.{other-refused}
-use Rattle.reading.proofs.LineLaws.{refused-field}
+use Rattle.contents.proofs.ContentLaws.{refused-field}
 use borrow.Author.Needs.{needs}
 use Rattle.reading.proofs.field.Statement.{statement}
 use Rattle.reading.proofs.field.Tie as tie

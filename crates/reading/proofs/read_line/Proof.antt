@@ -7,7 +7,8 @@ use Rattle.meaning.specs.declared.Line.the-variants.{Act}
 use Rattle.meaning.specs.Frames.{lineFault}
 use Rattle.heads.proofs.FieldLaws.{kind-field}
 use Rattle.heads.proofs.HeadLaws.{whole-part}
-use Rattle.reading.proofs.LineLaws.{line-refused, second-in, line-whole, line-begin, line-act, fault-number, first-in}
+use Rattle.contents.proofs.ContentLaws.{line-whole, line-begin, line-act}
+use Rattle.reading.proofs.LineLaws.{line-refused, second-in, fault-number, first-in}
 use borrow.Author.Needs.{needs}
 use Rattle.reading.proofs.read_line.Statement.{statement}
 use Rattle.reading.proofs.read_line.Tie as tie

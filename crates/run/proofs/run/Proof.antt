@@ -5,7 +5,7 @@ use native.Mathlib.Omega.{arith}
 use denote.Ref.{now}
 use Rattle.meaning.proofs.JournalLaws.{refused-numbered}
 use Rattle.meaning.proofs.AccountJournals.{begin-right}
-use Rattle.journal.proofs.Finding.{begun}
+use Rattle.journal.proofs.Passing.{begun}
 use Rattle.run.proofs.Running.{run-wrong, run-begun, run-broken, act-is, refused-is, end-is}
 use borrow.Author.Needs.{needs}
 use Rattle.run.proofs.run.Statement.{statement}

@@ -7,7 +7,7 @@ use Rattle.text.proofs.all_lines.Statement.{statement}
 use Rattle.text.proofs.all_lines.Tie as tie
 
 first-line-requires : tie.Need-first-line-requires
-first-line-requires c κs = search needs
+first-line-requires c κs = omega arith
 
 node-lines-requires : tie.Need-node-lines-requires
 node-lines-requires c κs = search needs

@@ -9,7 +9,7 @@ use Rattle.meaning.specs.declared.Outcome.the-variants.{Done}
 use Rattle.meaning.specs.Table.{tableWords, nodesMost, count}
 use Rattle.text.specs.Text.{textMost, hasNodes}
 use Rattle.printing.proofs.Writing.{wrote-as, wrote-none}
-use Rattle.nodelines.proofs.LineLaws.{count-is}
+use Rattle.nodeparts.proofs.PartLaws.{count-is}
 use Rattle.text.proofs.Lines.{text-none, text-whole}
 use borrow.Author.Needs.{needs}
 use Rattle.text.proofs.done_text.Statement.{statement}

@@ -18,13 +18,13 @@ enum-known-outcome : tie.Need-enum-known-outcome
 enum-known-outcome c = search needs
 
 bad-line-requires : tie.Need-bad-line-requires
-bad-line-requires c κs = search needs
+bad-line-requires c κs = omega arith
 
 enum-known-outcome-2 : tie.Need-enum-known-outcome-2
 enum-known-outcome-2 c = search needs
 
 unread-line-requires : tie.Need-unread-line-requires
-unread-line-requires c κs = search needs
+unread-line-requires c κs = omega arith
 
 enum-known-outcome-3 : tie.Need-enum-known-outcome-3
 enum-known-outcome-3 c = search needs

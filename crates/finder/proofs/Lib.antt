@@ -1,0 +1,4 @@
+pub mod Finding
+pub mod OnePart
+pub mod OneReply
+pub mod Values

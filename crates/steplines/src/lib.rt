@@ -1,0 +1,60 @@
+// The step of one line that is known to be as long as a write's or a purge's and to begin with its kind: the step's function takes the numbers of
+// the digits. What is not told so to be a step is left to the reader of lines. A session's line is `sessionline`'s.
+// Inner functions of the loop over a journal's lines: what they require, it shows.
+ghost use mathlib.Core.Path.{_≡_};
+ghost use Rattle.meaning.specs.Table.{Sound};
+ghost use Rattle.meaning.specs.Frames.{readLine};
+ghost use Rattle.steplines.specs.StepLines.{refusedBy, Turned, Begins};
+use digits::values;
+use heads::NO_LINE;
+use heads::short_line;
+use meaning::Reply;
+use numbers::byte_of;
+use numbers::word_of;
+
+// What is told of a line that is no step.
+pub const UNSURE: usize = 2;
+
+// 1 for a refused step
+pub fn count(r: Reply) -> usize
+    ensures { λ k. ⌜ k ≡ refusedBy r ⌝ }
+{
+    match r {
+        Reply::Written => 0,
+        Reply::Carried { a: _, b: _ } => 0,
+        Reply::Purged { removed: _ } => 0,
+        Reply::Refused { number: _ } => 1,
+    }
+}
+
+// The step of a write's 24 characters.
+pub fn write_line(s: &[u8], t: &mut [u32]) -> usize
+    requires { ⌜ Sound (now t) × Begins (now s) 24 49 ⌝ }
+    ensures { λ r. ⌜ Turned (now (t .entry)) (readLine 1 (now (s .entry))) r (now (t .exit)) ⌝ }
+{
+    let mut v = [0u8; 24];
+    if values(s, &mut v[..]) != 0 {
+        return UNSURE;
+    }
+    let r = writes::write(
+        t,
+        byte_of(&v[..], 2),
+        word_of(&v[..], 4),
+        word_of(&v[..], 12),
+        byte_of(&v[..], 20),
+    );
+    count(r)
+}
+
+// The step of a purge's six characters.
+pub fn purge_line(s: &[u8], t: &mut [u32]) -> usize
+    requires { ⌜ Sound (now t) × Begins (now s) 6 51 ⌝ }
+    ensures { λ r. ⌜ Turned (now (t .entry)) (readLine 1 (now (s .entry))) r (now (t .exit)) ⌝ }
+{
+    let x = short_line(s[0], s[1], s[2], s[3], s[4], s[5]);
+    if NO_LINE <= x {
+        return UNSURE;
+    }
+    let r = purges::purge(t, (x % 256) as u8);
+    count(r)
+}
