@@ -23,7 +23,7 @@ type FrameSession = unsafe extern "C" fn(*mut u8, usize, u8, u8, u32, u32, u8, *
 type FrameShort = unsafe extern "C" fn(*mut u8, usize, u8, *mut u32) -> u32;
 type Write = unsafe extern "C" fn(*mut u32, usize, u8, u32, u32, u8) -> u32;
 type Session = unsafe extern "C" fn(*mut u32, usize, u8, u8, u32, u32, u8, *mut u32, *mut u32) -> u32;
-type Purge = unsafe extern "C" fn(*mut u32, usize, u8, *mut u32) -> u32;
+type Purge = unsafe extern "C" fn(*mut u32, usize, u8, *mut u32, *mut u32) -> u32;
 type Count = unsafe extern "C" fn(*const u32, usize, *mut u32, *mut u32) -> u32;
 type ApplyLine = unsafe extern "C" fn(*mut u32, usize, *const u8, usize, *mut u32, *mut u32, *mut usize) -> u32;
 type ApplyLines = unsafe extern "C" fn(*mut u32, usize, *const u8, usize, *mut usize, *mut usize, *mut usize, *mut usize) -> u32;
@@ -62,7 +62,7 @@ macro_rules! api {
             fn $frame_purge(o: *mut u8, n: usize, p: u8, r: *mut u32) -> u32;
             fn $write(w: *mut u32, n: usize, p: u8, t: u32, b: u32, v: u8) -> u32;
             fn $session(w: *mut u32, n: usize, a: u8, b: u8, x: u32, y: u32, c: u8, r: *mut u32, s: *mut u32) -> u32;
-            fn $purge(w: *mut u32, n: usize, p: u8, r: *mut u32) -> u32;
+            fn $purge(w: *mut u32, n: usize, p: u8, r: *mut u32, l: *mut u32) -> u32;
             fn $count(w: *const u32, n: usize, s: *mut u32, t: *mut u32) -> u32;
             fn $apply_line(w: *mut u32, n: usize, l: *const u8, m: usize, x: *mut u32, y: *mut u32, p: *mut usize) -> u32;
             fn $apply_lines(w: *mut u32, n: usize, l: *const u8, m: usize, x: *mut usize, y: *mut usize, z: *mut usize, p: *mut usize) -> u32;
@@ -235,7 +235,7 @@ fn call(api: Api, table: &mut [u32], action: Action) -> u32 {
         match action {
             Action::Write { node, timestamp, block, verdict } => (api.write)(at, size, node, timestamp, block, verdict),
             Action::Session { a, b, ca, cb, outcome } => (api.session)(at, size, a, b, ca, cb, outcome, &mut x, &mut y),
-            Action::Purge { node } => (api.purge)(at, size, node, &mut x),
+            Action::Purge { node } => (api.purge)(at, size, node, &mut x, &mut y),
         }
     };
     black_box((x, y));

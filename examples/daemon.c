@@ -67,9 +67,12 @@ static void meet(uint8_t a, uint8_t b, uint32_t now, uint8_t outcome)
 
 static void purge(uint8_t node)
 {
-    uint32_t removed;
-    refused("purge", pollencart_purge(table, POLLENCART_TABLE, node, &removed));
-    printf("purge of node %d: %" PRIu32 " removed, %" PRIu32 " held\n", node, removed, pollencart_held(table, POLLENCART_TABLE, node));
+    uint32_t removed, lags;
+    refused("purge", pollencart_purge(table, POLLENCART_TABLE, node, &removed, &lags));
+    printf("purge of node %d: %" PRIu32 " removed, %" PRIu32 " held", node, removed, pollencart_held(table, POLLENCART_TABLE, node));
+    if (removed == 0)
+        printf(", node %" PRIu32 " lags", lags);
+    printf("\n");
 }
 
 /* Scrubbed, touched and the gap in one node's log. */

@@ -149,20 +149,21 @@ uint32_t pollencart_fresh(uint32_t *table, size_t table_len, uint32_t n);
  * session: a and b exchange at readings ca and cb. outcome: 0 neither side finishes, 1 only a, 2 only b, 3 both
  *          (POLLENCART_FINISH_..). What was carried to each is stored through to_a and to_b, 0 for a side that does not finish.
  *          Refused with 1, 2, 3, 4, 5 (a reading is below its node's own entry) or 6 (a finishing side would hold more than 64).
- * purge:   the node's records up to the smallest of its acknowledgements leave; how many is stored through removed.
- *          Refused with 1 or 3. */
+ * purge:   the node's records up to the smallest of its acknowledgements leave; how many is stored through removed. The node whose
+ *          acknowledgement that is, the lowest among equals, is stored through lags, whether a record left or not: what is still
+ *          held has a timestamp above it, so that node holds it up. Refused with 1 or 3, and then lags is 0. */
 uint32_t pollencart_write(uint32_t *table, size_t table_len, uint8_t node, uint32_t timestamp, uint32_t block, uint8_t verdict);
 uint32_t pollencart_session(uint32_t *table, size_t table_len, uint8_t a, uint8_t b, uint32_t ca, uint32_t cb, uint8_t outcome,
                             uint32_t *to_a, uint32_t *to_b);
-uint32_t pollencart_purge(uint32_t *table, size_t table_len, uint8_t node, uint32_t *removed);
+uint32_t pollencart_purge(uint32_t *table, size_t table_len, uint8_t node, uint32_t *removed, uint32_t *lags);
 
 /* From lines to the table. Both calls read what check_line reads and do what the three actions do, and nothing else; a refusal
  * changes no word of the table. Lines are those of a table that is there already: a start among them is refused with 15.
  *
  * apply_line:  one line, without its LF. Answers 0, or the line's own refusal with its place as check_line gives them (15 at place
  *              0 also for a start), which comes before anything about the table; then the step's: the first of 1 to 6 that applies,
- *              with place 0. What the step counts is stored through first and second: for a session what was carried to a and to b,
- *              for a purge what was removed and 0, for a write 0 and 0. Both are 0 if refused.
+ *              with place 0. What the step reports is stored through first and second: for a session what was carried to a and to b,
+ *              for a purge what was removed and the node that lags, for a write 0 and 0. Both are 0 if refused.
  * apply_lines: many lines, each ended by its LF, one after another, with one look over the table at the beginning. A refused step is
  *              counted and passed over; the first refused line ends the call, and the steps before it stay applied.
  *              Answers 0 where the end of the lines was reached, the number of check_line for the refused line, 14 where bytes are

@@ -90,9 +90,9 @@ static void example(void) {
     w = lend(), x = y = UNSET, place = UNSET, at = text(PURGE_0, 6);
     expect(pollencart_apply_line(w, WORDS, at, 6, &x, &y, &place) == 0 && place == 0 && x == 0 && y == 0, "a purge's line", "the answer");
     stands("a purge's line");
-    for (uint32_t q = 0; q < 2; q++) set(acknowledgement_at(0, q), 5);
+    for (uint32_t q = 0; q < 2; q++) set(acknowledgement_at(0, q), 6 - q);
     w = lend(), x = y = UNSET, place = UNSET, at = text(PURGE_0, 6);
-    expect(pollencart_apply_line(w, WORDS, at, 6, &x, &y, &place) == 0 && place == 0 && x == 1 && y == 0, "a purge of one", "the answer");
+    expect(pollencart_apply_line(w, WORDS, at, 6, &x, &y, &place) == 0 && place == 0 && x == 1 && y == 1, "a purge of one", "the answer");
     set(held_at(0), 0);
     for (uint32_t word = 1; word < RECORD; word++) set(record_at(0, 0, word), 0);
     stands("a purge of one");

@@ -61,12 +61,13 @@ static void lists(uint8_t *bytes, uint32_t *words) {
 static void tables(uint32_t *table) {
     expect("fresh", pollencart_fresh(table, 0, 2), POLLENCART_UNSOUND);
     expect("write", pollencart_write(table, 0, 0, 5, 16, POLLENCART_VERDICT_CACHE), POLLENCART_UNSOUND);
-    uint32_t to_a = UNSET, to_b = UNSET, removed = UNSET, scrubbed = UNSET, touched = UNSET;
+    uint32_t to_a = UNSET, to_b = UNSET, removed = UNSET, lags = UNSET, scrubbed = UNSET, touched = UNSET;
     expect("session", pollencart_session(table, 0, 0, 1, 6, 4, POLLENCART_FINISH_BOTH, &to_a, &to_b), POLLENCART_UNSOUND);
     expect("to a", to_a, 0);
     expect("to b", to_b, 0);
-    expect("purge", pollencart_purge(table, 0, 0, &removed), POLLENCART_UNSOUND);
+    expect("purge", pollencart_purge(table, 0, 0, &removed, &lags), POLLENCART_UNSOUND);
     expect("removed", removed, 0);
+    expect("lags", lags, 0);
     expect("summary", pollencart_summary(table, 0, 0, 0), 0);
     expect("acknowledgement", pollencart_acknowledgement(table, 0, 0, 0), 0);
     expect("held", pollencart_held(table, 0, 0), 0);

@@ -36,10 +36,10 @@ static void answers(const char *about, struct call c, size_t len, uint32_t numbe
     case FRESH: r = pollencart_fresh(w, len, f[0]); break;
     case WRITE: r = pollencart_write(w, len, (uint8_t)f[0], f[1], f[2], (uint8_t)f[3]); break;
     case SESSION: r = pollencart_session(w, len, (uint8_t)f[0], (uint8_t)f[1], f[2], f[3], (uint8_t)f[4], &x, &y); break;
-    default: r = pollencart_purge(w, len, (uint8_t)f[0], &x); break;
+    default: r = pollencart_purge(w, len, (uint8_t)f[0], &x, &y); break;
     }
     expect(r == number, about, "the number");
-    expect(x == (c.kind < SESSION ? UNSET : count) && y == (c.kind == SESSION ? count_b : UNSET), about, "the counts");
+    expect(x == (c.kind < SESSION ? UNSET : count) && y == (c.kind < SESSION ? UNSET : count_b), about, "the counts");
     met[c.kind][r < 7 ? r : 0]++;
 }
 
@@ -101,16 +101,26 @@ static void writes_and_meets(void) {
     }
 }
 
-/* Node 2's smallest acknowledgement is 50: 37 to 50 leave, 51 to 100 close up, fourteen rows become zero. Node 0's is 1: none leave. */
+/* Node 2's smallest acknowledgement is 50: 37 to 50 leave, 51 to 100 close up, fourteen rows become zero. Node 0's is 1: none
+ * leave; so is node 1's, its own. Who lags is told. */
 static void purges(void) {
     fill();
     answers("a purge of none", PURGE_OF(0), WORDS, 0, 0, 0);
     words_stand("a purge of none");
+    answers("a purge of none, node 1 lags", PURGE_OF(1), WORDS, 0, 0, 1);
+    words_stand("a purge of none, node 1 lags");
     answers("a purge", PURGE_OF(2), WORDS, 0, 14, 0);
     for (uint32_t i = 0; i < ROOM; i++)
         for (uint32_t word = 0; word < RECORD; word++) due[record_at(2, i, word)] = i < 50 ? due[record_at(2, i + 14, word)] : 0;
     due[held_at(2)] = 50;
     words_stand("a purge");
+    set_row(acknowledgement_at(0, 0), 2, 3, 1);
+    answers("the last node lags", PURGE_OF(0), WORDS, 0, 0, 2);
+    set_row(acknowledgement_at(0, 0), 3, 1, 1);
+    answers("two nodes lag", PURGE_OF(0), WORDS, 0, 0, 1);
+    set_row(acknowledgement_at(0, 0), 1, 1, 1);
+    answers("all are equal", PURGE_OF(0), WORDS, 0, 0, 0);
+    words_stand("who lags");
 }
 
 /* Each number on the table of three, and which of two comes first. */
@@ -233,9 +243,9 @@ static void example(void) {
     expect(pollencart_fresh(t, WORDS, 2) == 0 && pollencart_write(t, WORDS, 0, 5, 16, 16) == 0, "example", "begins");
     expect(pollencart_session(t, WORDS, 0, 1, 6, 4, 3, &x, &y) == 0 && x == 0 && y == 1, "example", "the first session");
     expect(pollencart_session(t, WORDS, 0, 1, 7, 7, 1, &x, &y) == 0 && x == 0 && y == 0, "example", "the second, which b does not finish");
-    expect(pollencart_purge(t, WORDS, 0, &x) == 0 && x == 0, "example", "a purge of none");
+    expect(pollencart_purge(t, WORDS, 0, &x, &y) == 0 && x == 0 && y == 0, "example", "a purge of none");
     expect(pollencart_session(t, WORDS, 0, 1, 8, 8, 3, &x, &y) == 0 && x == 0 && y == 0, "example", "the third session");
-    expect(pollencart_purge(t, WORDS, 0, &x) == 0 && x == 1, "example", "a purge of one");
+    expect(pollencart_purge(t, WORDS, 0, &x, &y) == 0 && x == 1 && y == 1, "example", "a purge of one");
     for (uint8_t p = 0; p < 2; p++) {
         for (uint8_t o = 0; o < 2; o++) {
             expect(pollencart_summary(t, WORDS, p, o) == entries[o], "example", "summary");

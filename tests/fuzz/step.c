@@ -108,8 +108,8 @@ static void call(uint32_t *table, size_t length)
         same(pollencart_session(table, length, p, q, x, y, outcome, w, w + 1) == plain_session(plain, length, p, q, x, y, outcome, w + 2, w + 3), "session");
         same(w[0] == w[2] && w[1] == w[3], "the carried counts");
     } else if (op % 8 == 5) {
-        same(pollencart_purge(table, length, p, w) == plain_purge(plain, length, p, w + 1), "purge");
-        same(w[0] == w[1], "the removed count");
+        same(pollencart_purge(table, length, p, w, w + 1) == plain_purge(plain, length, p, w + 2, w + 3), "purge");
+        same(w[0] == w[2] && w[1] == w[3], "the removed count, and the node that lags");
     } else if (op % 8 == 6) {
         same(pollencart_count_node(table, length, p, w, w + 1) == plain_count_node(plain, length, p, w + 2, w + 3), "count_node");
         same(w[0] == w[2] && w[1] == w[3], "the counts");

@@ -134,7 +134,7 @@ static uint32_t *step(uint32_t op, const uint32_t *c, uint32_t *out)
     else if (op == SESSION)
         answer = pollencart_session(table, length, (uint8_t)c[0], (uint8_t)c[1], c[2], c[3], (uint8_t)c[4], &x, &y);
     else
-        answer = pollencart_purge(table, length, (uint8_t)c[0], &x);
+        answer = pollencart_purge(table, length, (uint8_t)c[0], &x, &y);
     *out++ = answer;
     *out++ = x;
     *out++ = y;

@@ -24,7 +24,7 @@ length-case a k e p = rw e at p
 pub each : (x : Reply) → (getD (replyValues x) 0 0 ∷ getD (replyValues x) 1 0 ∷ getD (replyValues x) 2 0 ∷ []) ≡ replyValues x
 each Written = refl
 each (Carried a b) = refl
-each (Purged k) = refl
+each (Purged k q) = refl
 each (Refused k) = refl
 
 -- the values of a reply that is another, and the first k of them

@@ -31,20 +31,20 @@ pub fn first_of(answer: Reply) -> u32
     match answer {
         Reply::Written => 0,
         Reply::Carried { a, .. } => a,
-        Reply::Purged { removed } => removed,
+        Reply::Purged { removed, .. } => removed,
         Reply::Refused { .. } => 0,
     }
 }
 
-// A reply's second count: what a session carried to b.
+// A reply's second count: what a session carried to b, or the node that lags at a purge.
 pub fn second_of(answer: Reply) -> u32
     ensures { λ r. ⌜ r ≡ getD (replyValues answer) 2 0 ⌝ }
 {
     match answer {
         Reply::Written => 0,
         Reply::Carried { b, .. } => b,
-        Reply::Purged { .. } => 0,
-        Reply::Refused { .. } => 0,
+        Reply::Purged { lags, .. } => lags as u32,
+        Reply::Refused { number: _ } => 0,
     }
 }
 

@@ -1,6 +1,6 @@
 -- Laws of what the account and the rows of a node are made of: tests, membership, keeping, the smallest entry, the greater of two rows.
 -- They speak of lists alone; no table and no step stands here.
-use mathlib.Core.Path.{_≡_, refl, sym, ap, subst}
+use mathlib.Core.Path.{_≡_, refl, sym, ap, subst, _∙_}
 use mathlib.Core.Bool.{Bool, true, false, not, _&&_, _||_, Bool-set}
 use mathlib.Core.Logic.{∥∥₁-elim}
 use mathlib.Core.List.{
@@ -190,6 +190,18 @@ above-gone limit xs r h gone =
     let a = has-keep (λ y. not (leb (y .timestamp) limit)) r xs in
     let f : not (leb (r .timestamp) limit) ≡ false = cc in
     leb-true (r .timestamp) limit (not-false (leb (r .timestamp) limit) f)
+
+-- what is left is above it
+pub has-above : (limit : ℕ) (xs : List Record) (r : Record) → has r (above limit xs) ≡ true → limit < r .timestamp
+unfolding above
+has-above limit xs r h =
+    let a = has-keep (λ y. not (leb (y .timestamp) limit)) r xs in
+    let f : not (leb (r .timestamp) limit) ≡ true = and-right (has r xs) (not (leb (r .timestamp) limit)) (sym a ∙ h) in
+    leb-false (r .timestamp) limit (by-not (leb (r .timestamp) limit) f)
+  where
+    by-not : (b : Bool) → not b ≡ true → b ≡ false
+    by-not true g = sym g
+    by-not false g = refl
 
 -- Rows ----------------------------------------------------------------------------------------------------------------------------------
 

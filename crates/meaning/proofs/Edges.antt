@@ -1,7 +1,7 @@
--- Both sides of each edge: the cases that document 01 marks ★, and the places of T-01, as one table that is computed. A row has a name, what the definitions
--- compute and what is expected, and holds by computation; where one does not, the checker says `Holds "its name" ..` of the first that fails. The
--- theorem `edges` is the whole table at once. Each step runs on a real table of 4,625 words: its row shows the refusal, both counts, and place
--- and new value of every word that changed, so that no other word did.
+-- Both sides of each edge: the cases that document 01 marks ★, the places of T-01 and the nodes of T-02, as one table that is computed. A row has a
+-- name, what the definitions compute and what is expected, and holds by computation; where one does not, the checker says `Holds "its name" ..` of the
+-- first that fails. The theorem `edges` is the whole table at once. Each step runs on a real table of 4,625 words: its row shows the refusal, both
+-- counts, and place and new value of every word that changed, so that no other word did.
 use mathlib.Core.Path.{_≡_, refl}
 use mathlib.Core.Bool.{Bool, true, false, _&&_, cond}
 use mathlib.Core.List.{List, [], _∷_, _++_, map}
@@ -13,7 +13,7 @@ use Rattle.meaning.specs.declared.Action.the-variants.{Write, Session, P
 use Rattle.meaning.specs.declared.Reply.the-variants.{Refused}
 use Rattle.meaning.specs.declared.Outcome.the-variants.{Refused as Unread}
 use Rattle.meaning.specs.Refusals.{first, firstPlace}
-use Rattle.meaning.specs.Rows.{ascii, every, keep, least, raise, covers, newer, above, recordAt, records, words}
+use Rattle.meaning.specs.Rows.{ascii, every, keep, least, leastAt, raise, covers, newer, above, recordAt, records, words}
 use Rattle.meaning.specs.Table.{
   summaryAt,
   acksAt,
@@ -33,7 +33,7 @@ use Rattle.meaning.specs.Table.{
   sound,
 }
 use Rattle.meaning.specs.Node.{own, wrote, opened, finished, purged}
-use Rattle.meaning.specs.Steps.{refusals, refusal, limit, acted, reported, reply, after, replyValues}
+use Rattle.meaning.specs.Steps.{refusals, refusal, limit, lagging, acted, reported, reply, after, replyValues}
 use Rattle.meaning.specs.Frames.{
   digit,
   digitValue,
@@ -165,6 +165,14 @@ marked t =
 abbrev early : List ℕ
 early = reached two (Write 0 5 16 16 ∷ Session 0 1 6 4 3 ∷ Session 0 1 7 7 1 ∷ [])
 
+-- a fresh table of n whose node 0 has these acknowledgements
+abbrev acked : ℕ → List ℕ → List ℕ
+acked n row = place (acksAt 0) row (fresh n)
+
+-- node 0 has acknowledged 8 and knows node 1 to be at 6
+abbrev behind : List ℕ
+behind = reached five (Session 0 1 9 8 3 ∷ Session 0 1 9 9 0 ∷ [])
+
 -- one record of this verdict, counted: refusal, scrubbed, touched
 verdict : ℕ → List ℕ
 verdict v = countValues (verdictCount (0 ∷ 1 ∷ 16 ∷ v ∷ []))
@@ -180,8 +188,8 @@ example : String
 example = "0002FE\n0100000000050000001010DA\n020001000000060000000403F0\n020001000000070000000701EE\n0300FD\n020001000000080000000803EA\n0300FD\n"
 
 pub rows : List Row
-unfolding every keep least raise covers newer above recordAt records words part place count held node lay pieces putNode fresh recordSound logSound
-    sound own wrote opened finished purged refusals refusal limit acted reported reply after digit digitValue spelled bytesOf allDigits strayAt total
+unfolding every keep least leastAt raise covers newer above recordAt records words part place count held node lay pieces putNode fresh recordSound logSound
+    sound own wrote opened finished purged refusals refusal limit lagging acted reported reply after digit digitValue spelled bytesOf allDigits strayAt total
     check journalKinds knownIn widthsIn digitsIn fieldPlaceIn highFirst number packed unpacked actionOf sealed frameIn frame startFrame lineKind
     fieldsIn first firstPlace fieldTests lineTests lineRefusal linePlace readLine untilLF hasLF unended lineAt placeAfter nextIn stepsFrom journal
     afterAll refusedOf replayed replayAfter decimalIn decimal spaced said nodeLine nodeLines printed classOf scrubbed touched counted countRefusal
@@ -225,6 +233,19 @@ rows =
     row "the first purge of document 01's journal removes nothing" (does early (Purge 0)) (0 ∷ 0 ∷ 0 ∷ []) tt ∷
     row "a table that is not sound, whatever the step" (does (place 0 (17 ∷ []) two) (Session 9 9 0 0 4)) (refused 1) tt ∷
     row "purging an empty log" (does two (Purge 0)) (0 ∷ 0 ∷ 0 ∷ []) tt ∷
+    row "all acknowledgements equal: node 0 is told" (does (acked 3 (5 ∷ 5 ∷ 5 ∷ [])) (Purge 0)) (0 ∷ 0 ∷ 0 ∷ []) tt ∷
+    row "the last node lags" (does (acked 3 (5 ∷ 5 ∷ 4 ∷ [])) (Purge 0)) (0 ∷ 0 ∷ 2 ∷ []) tt ∷
+    row "two nodes lag: the lower is told" (does (acked 3 (5 ∷ 4 ∷ 4 ∷ [])) (Purge 0)) (0 ∷ 0 ∷ 1 ∷ []) tt ∷
+    row "the first and the last lag: the first is told" (does (acked 3 (4 ∷ 5 ∷ 4 ∷ [])) (Purge 0)) (0 ∷ 0 ∷ 0 ∷ []) tt ∷
+    row "an entry beyond n lags: it takes no part" (does (acked 2 (5 ∷ 4 ∷ 3 ∷ [])) (Purge 0)) (0 ∷ 0 ∷ 1 ∷ []) tt ∷
+    row "16 nodes, all equal" (does (fresh 16) (Purge 15)) (0 ∷ 0 ∷ 0 ∷ []) tt ∷
+    row "16 nodes, the last lags" (does (acked 16 (9 ∷ 9 ∷ 9 ∷ 9 ∷ 9 ∷ 9 ∷ 9 ∷ 9 ∷ 9 ∷ 9 ∷ 9 ∷ 9 ∷ 9 ∷ 9 ∷ 9 ∷ 8 ∷ [])) (Purge 0)) (0 ∷ 0 ∷ 15 ∷ []) tt ∷
+    row "16 nodes, two lag" (does (acked 16 (9 ∷ 9 ∷ 9 ∷ 9 ∷ 9 ∷ 9 ∷ 9 ∷ 3 ∷ 9 ∷ 9 ∷ 9 ∷ 3 ∷ 9 ∷ 9 ∷ 9 ∷ 8 ∷ [])) (Purge 0)) (0 ∷ 0 ∷ 7 ∷ []) tt ∷
+    row "a purge that removes some tells who lags" (does behind (Purge 0))
+    (0 ∷ 2 ∷ 1 ∷ 513 ∷ 0 ∷ 530 ∷ 0 ∷ 531 ∷ 0 ∷ 532 ∷ 0 ∷ 534 ∷ 0 ∷ 535 ∷ 0 ∷ 536 ∷ 0 ∷ []) tt ∷
+    row "and so does one that removes nothing" (does (reached behind (Purge 0 ∷ Write 0 10 18 0x20 ∷ [])) (Purge 0)) (0 ∷ 0 ∷ 1 ∷ []) tt ∷
+    row "a purge refused with 3 has node 0" (does (acked 2 (5 ∷ 4 ∷ [])) (Purge 2)) (3 ∷ 0 ∷ 0 ∷ []) tt ∷
+    row "a purge refused with 1 has node 0" (does (place 0 (17 ∷ []) (acked 2 (5 ∷ 4 ∷ []))) (Purge 0)) (1 ∷ 0 ∷ 0 ∷ []) tt ∷
     row "0002FE" (line "0002FE") (0 ∷ 0 ∷ 0 ∷ 2 ∷ []) tt ∷
     row "0002FF" (line "0002FF") (13 ∷ 4 ∷ []) tt ∷
     row "0002fe" (line "0002fe") (12 ∷ 4 ∷ []) tt ∷

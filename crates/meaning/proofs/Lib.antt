@@ -26,5 +26,6 @@ pub mod OneReply
 pub mod FrameInverses
 pub mod FrameTheorems
 pub mod FaultTheorems
+pub mod LagTheorems
 pub mod WideLaws
 pub mod Numbers

@@ -9,10 +9,10 @@ use native.Mathlib.Omega.{arith}
 use native.Mathlib.Decide.{decLe, decLt}
 use borrow.Author.Tests.{le-ltb, lt-ltb, le-leb, lt-leb}
 use lib.ListN.{length, getD, take, length-append, List·getD-append}
-use lib.Seq.{ext-getD, getD-take, getD-at, take-suc, length-take-le}
+use lib.Seq.{ext-getD, getD-take, getD-at, length-take-le}
 use lib.Dec.{leb, ltb}
 use Rattle.meaning.specs.declared.Record.{Record}
-use Rattle.meaning.specs.Rows.{every, all, keep, keepIf, least, raise, covers, newer, above, recordAt, records, words}
+use Rattle.meaning.specs.Rows.{every, all, keep, keepIf, least, leastAt, raise, covers, newer, above, recordAt, records, words}
 
 abbrev pub noRecord : Record
 noRecord = record { origin = 0; timestamp = 0; block = 0; verdict = 0 }
@@ -171,22 +171,7 @@ unfolding every
 every-all zero f h = refl
 every-all (suc n) f h = and-both (every n f) (f n) (every-all n f (λ i b. h i (omega arith))) (h n (omega arith))
 
--- the smallest entry and the raised row, one entry more
-min-assoc : (a b c : ℕ) → min a (min b c) ≡ min (min a b) c
-min-assoc a b c = omega arith
-
-least-snoc : (x : ℕ) (xs : List ℕ) (y : ℕ) → least ((x ∷ xs) ++ (y ∷ [])) ≡ min (least (x ∷ xs)) y
-unfolding least
-least-snoc x [] y = refl
-least-snoc x (z ∷ zs) y = ap (min x) (least-snoc z zs y) ∙ min-assoc x (least (z ∷ zs)) y
-
-pub least-take : (xs : List ℕ) (i : ℕ) → 0 < i → i < length xs → least (take (suc i) xs) ≡ min (least (take i xs)) (getD xs i 0)
-least-take [] i h g = absurd (omega arith)
-least-take (x ∷ xs) zero h g = absurd (omega arith)
-least-take (x ∷ xs) (suc i) h g =
-    ap (λ (l : List ℕ). least (x ∷ l)) (take-suc xs i 0 (omega arith)) ∙ least-snoc x (take i xs) (getD xs i 0)
-
--- the smallest entry is at most each, and what is not below it changes nothing before a row
+-- the smallest entry is at most each
 pub least-at : (xs : List ℕ) (i : ℕ) → i < length xs → least xs ≤ getD xs i 0
 unfolding least
 least-at [] i h = absurd (omega arith)
@@ -197,11 +182,93 @@ least-at (x ∷ (y ∷ ys)) (suc i) h =
     let below = least-at (y ∷ ys) i (omega arith) in
     omega arith
 
-pub least-before : (v : ℕ) (xs : List ℕ) → 0 < length xs → least xs ≤ v → least (v ∷ xs) ≡ least xs
+least-two : (x y : ℕ) (ys : List ℕ) → least (x ∷ (y ∷ ys)) ≡ min x (least (y ∷ ys))
 unfolding least
-least-before v [] h g = absurd (omega arith)
-least-before v (x ∷ xs) h g = omega arith
+least-two x y ys = refl
 
+least-one : (x : ℕ) → least (x ∷ []) ≡ x
+unfolding least
+least-one x = refl
+
+leastAt-none : leastAt [] ≡ 0
+unfolding leastAt
+leastAt-none = refl
+
+leastAt-one : (x : ℕ) → leastAt (x ∷ []) ≡ 0
+unfolding leastAt
+leastAt-one x = refl
+
+leastAt-here : (x y : ℕ) (ys : List ℕ) → x ≤ least (y ∷ ys) → leastAt (x ∷ (y ∷ ys)) ≡ 0
+unfolding leastAt
+leastAt-here x y ys h = rw (le-leb x (least (y ∷ ys)) h)
+
+leastAt-later : (x y : ℕ) (ys : List ℕ) → least (y ∷ ys) < x → leastAt (x ∷ (y ∷ ys)) ≡ suc (leastAt (y ∷ ys))
+unfolding leastAt
+leastAt-later x y ys h = rw (lt-leb x (least (y ∷ ys)) h)
+
+-- Where the smallest entry stands: within the row, its entry is the smallest, and every entry before it is greater
+pub leastAt-below : (xs : List ℕ) → 0 < length xs → leastAt xs < length xs
+leastAt-below [] h = absurd (omega arith)
+leastAt-below (x ∷ []) h = let e = leastAt-one x in omega arith
+leastAt-below (x ∷ (y ∷ ys)) h = go (leastAt-below (y ∷ ys) (omega arith)) (decLe x (least (y ∷ ys)))
+  where
+    go : leastAt (y ∷ ys) < length (y ∷ ys) → Dec (x ≤ least (y ∷ ys)) → leastAt (x ∷ (y ∷ ys)) < length (x ∷ (y ∷ ys))
+    go rest (yes g) = let e = leastAt-here x y ys g in omega arith
+    go rest (no g) = let e = leastAt-later x y ys (omega arith) in omega arith
+
+pub leastAt-entry : (xs : List ℕ) → 0 < length xs → getD xs (leastAt xs) 0 ≡ least xs
+leastAt-entry [] h = absurd (omega arith)
+leastAt-entry (x ∷ []) h = ap (λ (i : ℕ). getD (x ∷ []) i 0) (leastAt-one x) ∙ sym (least-one x)
+leastAt-entry (x ∷ (y ∷ ys)) h = go (leastAt-entry (y ∷ ys) (omega arith)) (decLe x (least (y ∷ ys)))
+  where
+    go :
+        getD (y ∷ ys) (leastAt (y ∷ ys)) 0 ≡ least (y ∷ ys) → Dec (x ≤ least (y ∷ ys)) →
+        getD (x ∷ (y ∷ ys)) (leastAt (x ∷ (y ∷ ys))) 0 ≡ least (x ∷ (y ∷ ys))
+    go rest (yes g) =
+        let low : x ≡ min x (least (y ∷ ys)) = omega arith in
+        ap (λ (i : ℕ). getD (x ∷ (y ∷ ys)) i 0) (leastAt-here x y ys g) ∙ low ∙ sym (least-two x y ys)
+    go rest (no g) =
+        let low : least (y ∷ ys) ≡ min x (least (y ∷ ys)) = omega arith in
+        ap (λ (i : ℕ). getD (x ∷ (y ∷ ys)) i 0) (leastAt-later x y ys (omega arith)) ∙ rest ∙ low ∙
+        sym (least-two x y ys)
+
+pub leastAt-first : (xs : List ℕ) (i : ℕ) → i < leastAt xs → least xs < getD xs i 0
+leastAt-first [] i h = let e = leastAt-none in absurd (omega arith)
+leastAt-first (x ∷ []) i h = let e = leastAt-one x in absurd (omega arith)
+leastAt-first (x ∷ (y ∷ ys)) i h = go (λ j g. leastAt-first (y ∷ ys) j g) (decLe x (least (y ∷ ys))) i h
+  where
+    go :
+        ((j : ℕ) → j < leastAt (y ∷ ys) → least (y ∷ ys) < getD (y ∷ ys) j 0) → Dec (x ≤ least (y ∷ ys)) → (j : ℕ) → j < leastAt (x ∷ (y ∷ ys)) →
+        least (x ∷ (y ∷ ys)) < getD (x ∷ (y ∷ ys)) j 0
+    go rest (yes g) j k = let e = leastAt-here x y ys g in absurd (omega arith)
+    go rest (no g) zero k = let s = least-two x y ys in omega arith
+    go rest (no g) (suc j) k =
+        let e = leastAt-later x y ys (omega arith) in
+        let greater = rest j (omega arith) in
+        let s = least-two x y ys in
+        omega arith
+
+-- and no other place has these three
+pub leastAt-is :
+    (xs : List ℕ) (i : ℕ) → i < length xs → ((j : ℕ) → j < length xs → getD xs i 0 ≤ getD xs j 0) → ((j : ℕ) → j < i → getD xs i 0 < getD xs j 0) →
+    (getD xs i 0 ≡ least xs) × (i ≡ leastAt xs)
+leastAt-is xs i h low first =
+    let here = leastAt-below xs (omega arith) in
+    let entry = leastAt-entry xs (omega arith) in
+    let most = least-at xs i h in
+    let few = low (leastAt xs) here in
+    let same : getD xs i 0 ≡ least xs = omega arith in
+    (same, go same (decLt i (leastAt xs)) (decLt (leastAt xs) i))
+  where
+    go : getD xs i 0 ≡ least xs → Dec (i < leastAt xs) → Dec (leastAt xs < i) → i ≡ leastAt xs
+    go same (yes a) b = let greater = leastAt-first xs i a in absurd (omega arith)
+    go same (no a) (yes b) =
+        let entry = leastAt-entry xs (omega arith) in
+        let greater = first (leastAt xs) b in
+        absurd (omega arith)
+    go same (no a) (no b) = omega arith
+
+-- the raised row, one entry more
 pub raise-take :
     (xs ys : List ℕ) (i : ℕ) → i < length xs → i < length ys →
     raise (take (suc i) xs) (take (suc i) ys) ≡ raise (take i xs) (take i ys) ++ (max (getD xs i 0) (getD ys i 0) ∷ [])

@@ -1,5 +1,5 @@
 -- What is said of a row of numbers or a list of records. Document 01, "The three actions".
-use mathlib.Core.Bool.{Bool, true, false, not, _&&_}
+use mathlib.Core.Bool.{Bool, true, false, not, _&&_, cond}
 use mathlib.Core.List.{List, [], _∷_, _++_}
 use Prim.Native.Nat.{ℕ, zero, suc, _+_, _*_, min, max}
 use Prim.Native.Char.{code}
@@ -45,6 +45,12 @@ unfoldable pub least : List ℕ → ℕ
 least [] = 0
 least (x ∷ []) = x
 least (x ∷ (y ∷ ys)) = min x (least (y ∷ ys))
+
+-- where it stands: "the lowest among equals"
+unfoldable pub leastAt : List ℕ → ℕ
+leastAt [] = 0
+leastAt (x ∷ []) = 0
+leastAt (x ∷ (y ∷ ys)) = cond (leb x (least (y ∷ ys))) 0 (suc (leastAt (y ∷ ys)))
 
 -- "entry by entry, the greater of both"
 unfoldable pub raise : List ℕ → List ℕ → List ℕ

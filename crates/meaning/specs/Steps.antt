@@ -9,7 +9,7 @@ use Rattle.meaning.specs.declared.Action.{Action}
 use Rattle.meaning.specs.declared.Action.the-variants.{Write, Session, Purge}
 use Rattle.meaning.specs.declared.Reply.{Reply}
 use Rattle.meaning.specs.declared.Reply.the-variants.{Written, Carried, Purged, Refused}
-use Rattle.meaning.specs.Rows.{unless, least}
+use Rattle.meaning.specs.Rows.{unless, least, leastAt}
 use Rattle.meaning.specs.Refusals.{Test, test, first}
 use Rattle.meaning.specs.Table.{Node, logMost, absent, node, putNode, sound}
 use Rattle.meaning.specs.Node.{own, wrote, opened, sent, finished, ended, purged}
@@ -73,6 +73,10 @@ refusal t x = first (refusals t x)
 unfoldable pub limit : List ℕ → ℕ → ℕ
 limit t p = least (node t p .acks)
 
+-- who holds a purge up: "the node that has it (the lowest among equals)"
+unfoldable pub lagging : List ℕ → ℕ → ℕ
+lagging t p = leastAt (node t p .acks)
+
 -- The words that an accepted action leaves. Both sides of a session work from the starting values.
 unfoldable pub acted : List ℕ → Action → List ℕ
 acted t (Write p c b v) = putNode p (wrote p c b v (node t p)) t
@@ -90,7 +94,7 @@ reported t (Write p c b v) = Written
 reported t (Session a b ca cb o) =
     Carried (carried (finishesA o) (opened a ca (node t a)) (opened b cb (node t b)))
     (carried (finishesB o) (opened b cb (node t b)) (opened a ca (node t a)))
-reported t (Purge p) = Purged (length (node t p .log) - length (purged (limit t p) (node t p) .log))
+reported t (Purge p) = Purged (length (node t p .log) - length (purged (limit t p) (node t p) .log)) (lagging t p)
 
 -- A refusal "reports zero counts and changes no word".
 abbrev pub replied : ℕ → Reply → Reply
@@ -103,9 +107,9 @@ reply t x = replied (refusal t x) (reported t x)
 unfoldable pub after : List ℕ → Action → List ℕ
 after t x = unless (refusal t x) (acted t x) t
 
--- Document 01's values of each reply: the number (0 for none), then the two counts
+-- The values of each reply: the number (0 for none), then the two counts; a purge's second is the node that lags, and "a refused one" has "node 0"
 abbrev pub replyValues : Reply → List ℕ
 replyValues Written = 0 ∷ 0 ∷ 0 ∷ []
 replyValues (Carried a b) = 0 ∷ a ∷ b ∷ []
-replyValues (Purged k) = 0 ∷ k ∷ 0 ∷ []
+replyValues (Purged k q) = 0 ∷ k ∷ q ∷ []
 replyValues (Refused k) = k ∷ 0 ∷ 0 ∷ []

@@ -35,13 +35,19 @@ pub struct Step {
     pub action: Action,
 }
 
-// What a step reports: a session how many records it carried to each side, a purge how many it removed,
-// a write nothing, and a refused step its number. Steps.antt gives the number and the counts of each.
+// What a step reports: a session how many records it carried to each side, a purge how many it removed and the node that lags, a write nothing, and
+// a refused step its number. Steps.antt gives the number and the values of each.
 pub enum Reply {
     Written,
     Carried { a: u32, b: u32 },
-    Purged { removed: u32 },
+    Purged { removed: u32, lags: u8 },
     Refused { number: u32 },
+}
+
+// The smallest entry of a row, and the lowest place that has it: a node's number, where the row is one of a node's.
+pub struct Least {
+    pub value: u32,
+    pub at: usize,
 }
 
 // What is wrong with a line: the number of its refusal, and the place in the line, from 0, of the first character at fault. Two zeros are none.

@@ -39,7 +39,7 @@ pub fn opening(summary: &mut [u32], acks: &mut [u32], t: &[u32], p: usize, n: us
     let end = at + n;
     let low = least_with(&t[at..end], p, reading);
     row_with(summary, t, at, p, reading);
-    row_with(acks, t, layout::acks_at(p), p, low);
+    row_with(acks, t, layout::acks_at(p), p, low.value);
 }
 
 // 6: "a finishing side would hold more than 64". "Number 6 asks nothing of a side that doesn't finish."

@@ -33,7 +33,7 @@ pub one-session :
     (λ κs x s. (x ∷ now (s .1 .1 .1 .1 .1 .1 .0) ∷ now (s .1 .1 .1 .1 .1 .1 .1 .0) ∷ []) ++ now (s .0))
 one-session κs a x y s s' p q = both (p .0) (q .0) (p .1) (q .1)
 
-pub one-purge : OneReply 2 purge-kinds.ps purge-kinds.r purge.Post (λ κs x s. (x ∷ now (s .1 .1 .0) ∷ []) ++ now (s .0))
+pub one-purge : OneReply 3 purge-kinds.ps purge-kinds.r purge.Post (λ κs x s. (x ∷ now (s .1 .1 .0) ∷ now (s .1 .1 .1 .0) ∷ []) ++ now (s .0))
 one-purge κs a x y s s' p q = both (p .0) (q .0) (p .1) (q .1)
 
 pub one-summary : OneResult 1 summary-kinds.ps summary-kinds.r summary.Post

@@ -51,12 +51,18 @@ pub extern "C" fn pollencart_session(
     number_of(answer)
 }
 
-// A node drops what every node has acknowledged to it; how many records left is stored.
+// A node drops what every node has acknowledged to it; how many records left is stored, and the node that lags.
 #[no_mangle]
-pub extern "C" fn pollencart_purge(table: &mut [u32], node: u8, removed: &mut u32) -> u32
-    ensures { λ r. ⌜ Stepped (now (table .entry)) (Purge node) (r ∷ now (removed .exit) ∷ []) (now (table .exit)) ⌝ }
+pub extern "C" fn pollencart_purge(
+    table: &mut [u32],
+    node: u8,
+    removed: &mut u32,
+    lags: &mut u32,
+) -> u32
+    ensures { λ r. ⌜ Stepped (now (table .entry)) (Purge node) (r ∷ now (removed .exit) ∷ now (lags .exit) ∷ []) (now (table .exit)) ⌝ }
 {
     let answer = table::act::purge(table, node);
     *removed = first_of(answer);
+    *lags = second_of(answer);
     number_of(answer)
 }

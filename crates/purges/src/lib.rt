@@ -5,22 +5,23 @@ ghost use lib.ListN.{length, replicate};
 ghost use Rattle.meaning.specs.declared.Action.the-variants.{Purge};
 ghost use Rattle.meaning.specs.Rows.{above};
 ghost use Rattle.meaning.specs.Table.{tableWords, nodesMost, logMost, logAt, count, node, place, Sound};
-ghost use Rattle.meaning.specs.Steps.{limit};
+ghost use Rattle.meaning.specs.Steps.{limit, lagging};
 ghost use Rattle.logs.specs.Carry.{Puts};
 ghost use Rattle.looks.specs.Applied.{Applied};
 ghost use Rattle.purges.specs.Dropped.{Dropped};
 use logs::close_up;
 use looks::held_of;
 use looks::nodes_of;
+use meaning::Least;
 use meaning::Reply;
 use rows::clear;
 use rows::least_with;
 use rows::put_word;
 
-// The smallest entry of node p's acknowledgement row, over its n entries.
-fn limit_of(t: &[u32], p: usize, n: usize) -> u32
+// The smallest entry of node p's acknowledgement row, over its n entries, and the node that has it.
+fn limit_of(t: &[u32], p: usize, n: usize) -> Least
     requires { ⌜ Sound (now t) × (p < count (now t)) × (n ≡ count (now t)) ⌝ }
-    ensures { λ r. ⌜ r ≡ limit (now (t .entry)) p ⌝ }
+    ensures { λ r. ⌜ (r .value ≡ limit (now (t .entry)) p) × (r .at ≡ lagging (now (t .entry)) p) × (r .at < n) ⌝ }
 {
     let at = layout::acks_at(p);
     let end = at + n;
@@ -70,8 +71,9 @@ pub fn purge(t: &mut [u32], node: u8) -> Reply
         return Reply::Refused { number: 3 };
     }
     let held = held_of(t, p);
-    let limit = limit_of(t, p, n);
-    let left = drop_rows(t, p, held, limit);
+    let low = limit_of(t, p, n);
+    let left = drop_rows(t, p, held, low.value);
     let removed = (held - left) as u32;
-    Reply::Purged { removed }
+    let lags = low.at as u8;
+    Reply::Purged { removed, lags }
 }

@@ -1,11 +1,14 @@
 // Leaves over one row of numbers, or one word of a list, lent as a part that starts anywhere.
 // They know no offset: where a row stands is the caller's to say. Inner functions: what they require, the table's code shows.
 ghost use mathlib.Core.Path.{_≡_};
+ghost use mathlib.Core.Bool.{_&&_, _||_, cond};
 ghost use mathlib.Core.List.{[], _∷_};
 ghost use Prim.Native.Nat.{_+_, _≤_, _<_};
 ghost use lib.ListN.{length, replicate, set};
-ghost use Rattle.meaning.specs.Rows.{least, raise};
+ghost use lib.Dec.{ltb, eqb};
+ghost use Rattle.meaning.specs.Rows.{least, leastAt, raise};
 ghost use Rattle.meaning.specs.Table.{place};
+use meaning::Least;
 
 // The smaller and the greater of two numbers.
 fn min_of(x: u32, y: u32) -> u32
@@ -20,20 +23,40 @@ fn max_of(x: u32, y: u32) -> u32
     if x <= y { y } else { x }
 }
 
-// The smallest entry of a row in which the word at i is v. The row is read as it stands: one that was written just before would be read more slowly.
-pub fn least_with(row: &[u32], i: usize, v: u32) -> u32
+// Where the smaller of two entries stands, `low` at `at` and x at k. Of equals it is `at`, but where that is still i, from which the search
+// began, and k comes before it.
+fn place_of(low: u32, at: usize, x: u32, k: usize, i: usize) -> usize
+    ensures { λ r. ⌜ r ≡ cond (ltb x low || (eqb x low && (ltb k i && eqb at i))) k at ⌝ }
+{
+    if x < low {
+        return k;
+    }
+    if low < x {
+        return at;
+    }
+    if i <= k {
+        return at;
+    }
+    if at == i { k } else { at }
+}
+
+// The smallest entry of a row in which the word at i is v, and the lowest place that has it. The row is read as it stands: one that was written
+// just before would be read more slowly.
+pub fn least_with(row: &[u32], i: usize, v: u32) -> Least
     requires { ⌜ i < length (now row) ⌝ }
-    ensures { λ r. ⌜ r ≡ least (set (now (row .entry)) i v) ⌝ }
+    ensures { λ r. ⌜ (r .value ≡ least (set (now (row .entry)) i v)) × (r .at ≡ leastAt (set (now (row .entry)) i v)) ⌝ }
 {
     let mut low = v;
+    let mut at = i;
     let mut k: usize = 0;
     while k < row.len() {
         if k != i {
+            at = place_of(low, at, row[k], k, i);
             low = min_of(low, row[k]);
         }
         k += 1;
     }
-    low
+    Least { value: low, at }
 }
 
 // Fills a row with, entry by entry, the greater of two rows.

@@ -17,7 +17,7 @@ use Rattle.meaning.specs.Lines.{leftBy}
 abbrev pub refusedBy : Reply → ℕ
 refusedBy Written = 0
 refusedBy (Carried a b) = 0
-refusedBy (Purged k) = 0
+refusedBy (Purged k q) = 0
 refusedBy (RefusedWith k) = 1
 
 -- 1 for a refused step, 0 for one that is done, 2 for a line that is none

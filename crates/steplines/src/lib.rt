@@ -22,7 +22,7 @@ pub fn count(r: Reply) -> usize
     match r {
         Reply::Written => 0,
         Reply::Carried { a: _, b: _ } => 0,
-        Reply::Purged { removed: _ } => 0,
+        Reply::Purged { .. } => 0,
         Reply::Refused { number: _ } => 1,
     }
 }

@@ -39,7 +39,7 @@ fn steps(library: &mut Library, name: &str, mut table: Table, list: &[(Action, [
         let counts: &[u32] = match action {
             Action::Write { .. } => &[],
             Action::Session { .. } => &[reply.to_a, reply.to_b],
-            Action::Purge { .. } => &[reply.removed],
+            Action::Purge { .. } => &[reply.removed, reply.lags],
         };
         let right = reply.refusal == should[0] && counts == &should[1..=counts.len()] && is[0] == should[0] && is[1..=counts.len()] == *counts && after == words;
         if !right {
@@ -59,6 +59,21 @@ fn all_steps(library: &mut Library) -> Result<(), String> {
     steps(library, "equal readings", two(), &[(write(0, 1), [0, 0, 0]), (session(0, 1, 0, 0, 3), [5, 0, 0]), (session(0, 1, 1, 0, 3), [0, 0, 1])])?;
     steps(library, "outcome 0", holding(2), &[(session(0, 1, 5, 6, 0), [0, 0, 0])])?;
     steps(library, "smallest acknowledgement 5", acknowledged, &[(Action::Purge { node: 0 }, [0, 5, 0]), (Action::Purge { node: 1 }, [0, 0, 0])])?;
+    // who lags: all equal, the last, two, one of 16; an entry beyond n takes no part; a refused purge tells node 0
+    for (n, row, lags) in [
+        (3, vec![5, 5, 5], 0),
+        (3, vec![5, 5, 4], 2),
+        (3, vec![5, 4, 4], 1),
+        (3, vec![4, 5, 4], 0),
+        (2, vec![5, 4, 3], 1),
+        (16, vec![9; 16], 0),
+        (16, [vec![9; 15], vec![8]].concat(), 15),
+        (16, [vec![9; 7], vec![3, 9, 9, 3], vec![9; 5]].concat(), 7),
+    ] {
+        let mut table = fresh(WORDS, n).unwrap();
+        table.acknowledgements[0][..row.len()].copy_from_slice(&row);
+        steps(library, "who lags", table, &[(Action::Purge { node: 0 }, [0, 0, lags]), (Action::Purge { node: n as u8 }, [3, 0, 0])])?;
+    }
     steps(library, "64 held", holding(64), &[(write(0, 65), [6, 0, 0]), (write(0, 64), [5, 0, 0]), (session(0, 1, 65, 1, 1), [0, 0, 0])])?;
     let mut full = holding(63);
     full.apply(write(1, 1));

@@ -1,6 +1,6 @@
 //! An independent implementation of document 01 in plain Rust: tables as vectors, steps and their
-//! refusals, frames both ways, journals, the replay's text and the verdict count.
-//! It was written from that document alone and shares nothing with the proved code.
+//! refusals, frames both ways, journals, the replay's text and the verdict count; and of document 02's
+//! T-01 and T-02. It was written from those documents alone and shares nothing with the proved code.
 #![allow(dead_code)]
 
 use crate::layout::{COUNTS, JOURNAL, NODES, RECORD, ROOM, WORDS};
@@ -40,6 +40,7 @@ pub struct Reply {
     pub to_a: u32,
     pub to_b: u32,
     pub removed: u32,
+    pub lags: u32,
 }
 
 /// A line that was read.
@@ -202,14 +203,17 @@ impl Table {
 
     pub fn purge(&mut self, node: u8) -> Result<Reply, u32> {
         let p = self.node(node)?;
-        let smallest = *self.acknowledgements[p][..self.n()].iter().min().unwrap();
+        let entries = &self.acknowledgements[p][..self.n()];
+        let smallest = *entries.iter().min().unwrap();
+        // "the node that has it (the lowest among equals)"
+        let lags = entries.iter().position(|&entry| entry == smallest).unwrap() as u32;
         let before = self.held[p] as usize;
         let kept: Vec<Record> = self.log(p).iter().filter(|r| r.timestamp > smallest).copied().collect();
         for row in 0..before {
             self.logs[p][row] = kept.get(row).copied().unwrap_or_default();
         }
         self.held[p] = kept.len() as u32;
-        Ok(Reply { removed: (before - kept.len()) as u32, ..Reply::default() })
+        Ok(Reply { removed: (before - kept.len()) as u32, lags, ..Reply::default() })
     }
 
     fn node(&self, node: u8) -> Result<usize, u32> {
@@ -379,7 +383,7 @@ pub fn apply_line(table: Option<&mut Table>, line: &[u8]) -> [u32; 4] {
     let Some(table) = table else { return [1, 0, 0, 0] };
     let reply = table.apply(action);
     match action {
-        Action::Purge { .. } => [reply.refusal, reply.removed, 0, 0],
+        Action::Purge { .. } => [reply.refusal, reply.removed, reply.lags, 0],
         _ => [reply.refusal, reply.to_a, reply.to_b, 0],
     }
 }

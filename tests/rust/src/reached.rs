@@ -8,7 +8,7 @@ use std::collections::BTreeMap;
 pub struct Reached(BTreeMap<String, u64>);
 
 /// Everything that a run must have reached at least once.
-const MUST: [&str; 95] = [
+const MUST: [&str; 98] = [
     "fresh 0",
     "fresh 1",
     "write 0",
@@ -40,6 +40,9 @@ const MUST: [&str; 95] = [
     "purge of none",
     "purge of some",
     "purge of a full log to none",
+    "purge of none, held up by another",
+    "purge held up by the last node",
+    "purge held up by two, the lower above 0",
     "write into room that a purge freed",
     "demand 3 looked at",
     "count 0",

@@ -276,7 +276,7 @@ fn apply(table: &mut Table, event: Event) -> Option<[u32; 3]> {
             Some(match action {
                 Action::Write { .. } => [r.refusal, NONE, NONE],
                 Action::Session { .. } => [r.refusal, r.to_a, r.to_b],
-                Action::Purge { .. } => [r.refusal, r.removed, NONE],
+                Action::Purge { .. } => [r.refusal, r.removed, r.lags],
             })
         }
         Event::Poke(index, value) => {
@@ -342,6 +342,7 @@ impl Run<'_> {
                 }
                 words(answers.words(self.expected.len()), &self.expected)?;
                 if said[0] == 0 {
+                    self.lag(event, said);
                     self.room(event, said, before_held);
                     self.demand_3(event)?;
                 }
@@ -365,6 +366,16 @@ impl Run<'_> {
             }
         }
         Ok(())
+    }
+
+    /// Notes where the node that a purge tells stands: it is the last, or another has the same entry. A purge changes no acknowledgement.
+    fn lag(&mut self, event: Event, said: [u32; 3]) {
+        let (Some(table), Event::Step(Action::Purge { node })) = (&self.table, event) else { return };
+        let entries = &table.acknowledgements[usize::from(node)][..table.n()];
+        let lags = said[2] as usize;
+        self.reached.when(lags + 1 == entries.len(), "purge held up by the last node");
+        self.reached.when(lags > 0 && entries[lags + 1..].contains(&entries[lags]), "purge held up by two, the lower above 0");
+        self.reached.when(said[1] == 0 && lags != usize::from(node), "purge of none, held up by another");
     }
 
     /// "Room freed by a purge is used again": notes when it is.
@@ -416,8 +427,7 @@ impl Run<'_> {
 
 fn refused_with_1(event: Event) -> [u32; 3] {
     match event {
-        Event::Step(Action::Session { .. }) => [1, 0, 0],
-        Event::Step(Action::Purge { .. }) => [1, 0, u32::MAX],
+        Event::Step(Action::Session { .. } | Action::Purge { .. }) => [1, 0, 0],
         _ => [1, u32::MAX, u32::MAX],
     }
 }

@@ -91,9 +91,9 @@ returns c =
     let at-summary-at = at-least-with .before .before in
     let start = at-summary-at .before .before .before .before in
     both (start .args .t .now) (start .args .p) (start .args .n) (start .args .reading) (at-summary-at .summary-at .result)
-    (at-acks-at .acks-at .result) (at-least-with .least-with .result) (at-row-with .row-with .last .0) (at-row-with2 .row-with2 .last .0)
+    (at-acks-at .acks-at .result) (at-least-with .least-with .result .value) (at-row-with .row-with .last .0) (at-row-with2 .row-with2 .last .0)
     (start .pre .1) (at-summary-at .summary-at .ensures) (at-acks-at .acks-at .ensures) (at-row-with .row-with .ensures)
-    (at-least-with .least-with .ensures) (at-row-with2 .row-with2 .ensures)
+    (at-least-with .least-with .ensures .0) (at-row-with2 .row-with2 .ensures)
 
 pub opening-spec : {M : Type 1} → statement M
 opening-spec =

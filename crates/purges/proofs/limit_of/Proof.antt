@@ -5,10 +5,12 @@ use native.Mathlib.Omega.{arith}
 use mathlib.Core.List.{List}
 use lib.ListN.{take, drop, getD, set}
 use lib.Seq.{set-getD}
-use Rattle.meaning.specs.Rows.{least}
-use Rattle.meaning.specs.Steps.{limit}
+use Rattle.meaning.specs.Rows.{least, leastAt}
+use Rattle.meaning.specs.Steps.{limit, lagging}
 use Rattle.meaning.specs.Table.{count, node, part, acksAt, Sound}
 use Rattle.meaning.proofs.PlaceLaws.{part-lent, inside-lent, getD-part}
+use Rattle.meaning.proofs.RowLaws.{leastAt-below}
+use Rattle.meaning.proofs.TableLaws.{node-shaped}
 use borrow.Author.Needs.{needs}
 use Rattle.purges.proofs.limit_of.Statement.{statement}
 use Rattle.purges.proofs.limit_of.Tie as tie
@@ -63,16 +65,23 @@ least-with-requires c κs =
     inside-lent (at-acks-at .acks-at .result) _ (start .args .t .now) 0 (omega arith) (omega arith)
 
 returns : tie.Need-returns
-unfolding limit
+unfolding limit lagging
 returns c =
     let at-acks-at = c .before .before .before in
     let start = at-acks-at .before .before in
-    let s : Sound (start .args .t .now) = start .pre .0 in
+    let t = start .args .t .now in
+    let s : Sound t = start .pre .0 in
     let a = s .low in
     let f = start .pre .2 in
-    c .least-with .ensures ∙ ap least
-    (own (start .args .t .now) (at-acks-at .acks-at .result) (start .args .n) (omega arith) ∙
-    lent (start .args .t .now) (start .args .p) (at-acks-at .acks-at .result) (start .args .n) (at-acks-at .acks-at .ensures) (start .pre .2))
+    let row =
+    own t (at-acks-at .acks-at .result) (start .args .n) (omega arith) ∙
+    lent t (start .args .p) (at-acks-at .acks-at .result) (start .args .n) (at-acks-at .acks-at .ensures) (start .pre .2)
+    in
+    let found = c .least-with .ensures in
+    let at = found .1 ∙ ap leastAt row in
+    let wide = node-shaped t s (start .args .p) (start .pre .1) .acksLong in
+    let below = leastAt-below (node t (start .args .p) .acks) (omega arith) in
+    (found .0 ∙ ap least row, at, omega arith)
 
 pub limit-of-spec : {M : Type 1} → statement M
 limit-of-spec =
