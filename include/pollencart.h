@@ -151,7 +151,8 @@ uint32_t pollencart_fresh(uint32_t *table, size_t table_len, uint32_t n);
  *          Refused with 1, 2, 3, 4, 5 (a reading is below its node's own entry) or 6 (a finishing side would hold more than 64).
  * purge:   the node's records up to the smallest of its acknowledgements leave; how many is stored through removed. The node whose
  *          acknowledgement that is, the lowest among equals, is stored through lags, whether a record left or not: what is still
- *          held has a timestamp above it, so that node holds it up. Refused with 1 or 3, and then lags is 0. */
+ *          held has a timestamp above it, so that node holds it up. No row before the first record that leaves is stored to, and
+ *          where none leaves no word of the table. Refused with 1 or 3, and then lags is 0. */
 uint32_t pollencart_write(uint32_t *table, size_t table_len, uint8_t node, uint32_t timestamp, uint32_t block, uint8_t verdict);
 uint32_t pollencart_session(uint32_t *table, size_t table_len, uint8_t a, uint8_t b, uint32_t ca, uint32_t cb, uint8_t outcome,
                             uint32_t *to_a, uint32_t *to_b);

@@ -1,11 +1,13 @@
--- Records within a table: those of a log that stands at a place, what putting some of them elsewhere settles, and what carrying them requires.
+-- Records within a table: those of a log that stands at a place, what putting some of them elsewhere settles, which row of a log is the first to go
+-- and which are stored, and what carrying them requires.
 use mathlib.Core.Path.{_≡_}
-use mathlib.Core.Bool.{true}
+use mathlib.Core.Bool.{Bool, true, false}
 use mathlib.Core.List.{List, [], _∷_}
-use Prim.Native.Nat.{ℕ, _+_, _*_, _≤_, _<_}
+use Prim.Native.Nat.{ℕ, suc, _+_, _*_, _≤_, _<_}
 use lib.ListN.{length}
+use lib.Dec.{leb}
 use Rattle.meaning.specs.declared.Record.{Record}
-use Rattle.meaning.specs.Rows.{newer, recordAt, records, words, all}
+use Rattle.meaning.specs.Rows.{newer, above, recordAt, records, words, all}
 use Rattle.meaning.specs.Table.{logMost, part, place, recordSound}
 
 -- the first `held` records of the log at `from`, and one of its records
@@ -19,6 +21,21 @@ logRecord from row t = recordAt (part from (4 * logMost) t) row
 pub record Puts (at : ℕ) (rs : List Record) (t : List ℕ) (n : ℕ) (u : List ℕ) : Type 0 where
   pub many : n ≡ length rs
   pub leaves : u ≡ place at (words rs) t
+
+-- The row of the first of `held` records that leaves: it leaves, and all before it stay. `held` where none leaves
+pub record FirstLeaving (limit held : ℕ) (w : List ℕ) (r : ℕ) : Type 0 where
+  pub within : r ≤ held
+  pub stay : above limit (records r w) ≡ records r w
+  pub goes : r < held → recordAt w r .timestamp ≤ limit
+
+-- The rows that closing up stores, in order, `k` being the next one free: a record that leaves stores none, one that stays goes to that row
+abbrev pub storedOr : Bool → ℕ → List ℕ → List ℕ → List ℕ
+storedOr true k none more = none
+storedOr false k none more = k ∷ more
+
+unfoldable pub storedRows : ℕ → ℕ → List Record → List ℕ
+storedRows limit k [] = []
+storedRows limit k (r ∷ rs) = storedOr (leb (r .timestamp) limit) k (storedRows limit k rs) (storedRows limit (suc k) rs)
 
 -- The log read and the row written lie in the table, and the record's origin has an entry in the summary
 pub record Carries (t : List ℕ) (from row to : ℕ) (summary : List ℕ) : Type 0 where

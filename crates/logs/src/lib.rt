@@ -7,7 +7,7 @@ ghost use Prim.Native.Nat.{_+_, _*_, _≤_, _<_};
 ghost use lib.ListN.{length};
 ghost use Rattle.meaning.specs.Rows.{newer, above, recordAt, records, all};
 ghost use Rattle.meaning.specs.Table.{recordSound};
-ghost use Rattle.logs.specs.Carry.{logRecord, logRecords, Carries, CarriesAll, Puts};
+ghost use Rattle.logs.specs.Carry.{logRecord, logRecords, Carries, CarriesAll, Puts, FirstLeaving};
 use layout::LOG_WORDS;
 use meaning::Record;
 use records::is_newer;
@@ -66,30 +66,46 @@ pub fn carry(t: &mut [u32], from: usize, held: usize, to: usize, summary: &[u32]
     k
 }
 
-// Moves one record of a log up to row k, if its timestamp is above the limit: 1 if so, else 0.
-fn close_one(log: &mut [u32], row: usize, k: usize, limit: u32) -> usize
-    requires { ⌜ (k ≤ row) × (4 * row + 4 ≤ length (now log)) ⌝ }
-    ensures { λ n. ⌜ Puts (4 * k) (above limit (recordAt (now (log .entry)) row ∷ [])) (now (log .entry)) n (now (log .exit)) ⌝ }
+// The row of the first of a log's first `held` records that leaves, its timestamp at most the limit: `held` where none leaves. It only reads: the rows
+// before that one are lent to nothing that writes.
+pub fn first_leaving(log: &[u32], held: usize, limit: u32) -> usize
+    requires { ⌜ 4 * held ≤ length (now log) ⌝ }
+    ensures { λ r. ⌜ FirstLeaving limit held (now (log .entry)) r ⌝ }
 {
-    let r = record_at(log, row);
+    let mut row: usize = 0;
+    while row < held {
+        if record_at(log, row).timestamp <= limit {
+            return row;
+        }
+        row += 1;
+    }
+    held
+}
+
+// Moves one record of the rows up to row k, if its timestamp is above the limit: 1 if so, else 0. Only row k is written.
+fn close_one(tail: &mut [u32], row: usize, k: usize, limit: u32) -> usize
+    requires { ⌜ (k < row) × (4 * row + 4 ≤ length (now tail)) ⌝ }
+    ensures { λ n. ⌜ Puts (4 * k) (above limit (recordAt (now (tail .entry)) row ∷ [])) (now (tail .entry)) n (now (tail .exit)) ⌝ }
+{
+    let r = record_at(tail, row);
     if r.timestamp <= limit {
         0
     } else {
-        put_record(log, 4 * k, r);
+        put_record(tail, 4 * k, r);
         1
     }
 }
 
-// Closes up the first `held` records of a log whose timestamps are above the limit, in their order; the rows behind them are as they were.
-// How many are left.
-pub fn close_up(log: &mut [u32], held: usize, limit: u32) -> usize
-    requires { ⌜ 4 * held ≤ length (now log) ⌝ }
-    ensures { λ n. ⌜ Puts 0 (above limit (records held (now (log .entry)))) (now (log .entry)) n (now (log .exit)) ⌝ }
+// Closes up the rows of a log from the first record that leaves on, the only rows that it is lent: those whose timestamps are above the limit move up, in
+// their order, each to the row after the one before (`Carry.storedRows`); the rows behind them are as they were. How many of them are left.
+pub fn close_up(tail: &mut [u32], rows: usize, limit: u32) -> usize
+    requires { ⌜ (0 < rows) × (4 * rows ≤ length (now tail)) × (recordAt (now tail) 0 .timestamp ≤ limit) ⌝ }
+    ensures { λ n. ⌜ Puts 0 (above limit (records rows (now (tail .entry)))) (now (tail .entry)) n (now (tail .exit)) ⌝ }
 {
     let mut k: usize = 0;
-    let mut i: usize = 0;
-    while i < held {
-        k += close_one(log, i, k, limit);
+    let mut i: usize = 1;
+    while i < rows {
+        k += close_one(tail, i, k, limit);
         i += 1;
     }
     k

@@ -4,12 +4,13 @@ ghost use Prim.Native.Nat.{_+_, _-_, _*_, _≤_, _<_};
 ghost use lib.ListN.{length, replicate};
 ghost use Rattle.meaning.specs.declared.Action.the-variants.{Purge};
 ghost use Rattle.meaning.specs.Rows.{above};
-ghost use Rattle.meaning.specs.Table.{tableWords, nodesMost, logMost, logAt, count, node, place, Sound};
+ghost use Rattle.meaning.specs.Table.{tableWords, nodesMost, logMost, logAt, count, node, part, place, Sound};
 ghost use Rattle.meaning.specs.Steps.{limit, lagging};
-ghost use Rattle.logs.specs.Carry.{Puts};
+ghost use Rattle.logs.specs.Carry.{Puts, FirstLeaving};
 ghost use Rattle.looks.specs.Applied.{Applied};
 ghost use Rattle.purges.specs.Dropped.{Dropped};
 use logs::close_up;
+use logs::first_leaving;
 use looks::held_of;
 use looks::nodes_of;
 use meaning::Least;
@@ -28,14 +29,27 @@ fn limit_of(t: &[u32], p: usize, n: usize) -> Least
     least_with(&t[at..end], 0, t[at])
 }
 
-// "Every held record whose timestamp is at most [the limit] leaves. The rest close up in their order": how many are left.
-fn close_log(t: &mut [u32], p: usize, held: usize, limit: u32) -> usize
+// The row of the first record of p's log that leaves; `held` where none does.
+fn first_of(t: &[u32], p: usize, held: usize, limit: u32) -> usize
     requires { ⌜ Sound (now t) × (p < count (now t)) × (held ≡ Rattle.meaning.specs.Table.held (now t) p) ⌝ }
-    ensures { λ r. ⌜ Puts (logAt p) (above limit (node (now (t .entry)) p .log)) (now (t .entry)) r (now (t .exit)) × (r ≤ held) ⌝ }
+    ensures { λ r. ⌜ FirstLeaving limit held (part (logAt p) (4 * logMost) (now (t .entry))) r ⌝ }
 {
     let at = layout::log_at(p);
     let end = at + layout::LOG_WORDS;
-    close_up(&mut t[at..end], held, limit)
+    first_leaving(&t[at..end], held, limit)
+}
+
+// "Every held record whose timestamp is at most [the limit] leaves. The rest close up in their order": how many are left. What moves rows is lent only
+// those from the first record that leaves to the last held: no row before it can be written.
+fn close_log(t: &mut [u32], p: usize, first: usize, held: usize, limit: u32) -> usize
+    requires { ⌜ Sound (now t) × (p < count (now t)) × (held ≡ Rattle.meaning.specs.Table.held (now t) p) × (held ≤ logMost) × (first < held) ⌝ }
+    requires { ⌜ FirstLeaving limit held (part (logAt p) (4 * logMost) (now t)) first ⌝ }
+    ensures { λ r. ⌜ Puts (logAt p) (above limit (node (now (t .entry)) p .log)) (now (t .entry)) r (now (t .exit)) × (r ≤ held) ⌝ }
+{
+    let at = layout::log_at(p);
+    let from = at + 4 * first;
+    let end = at + 4 * held;
+    first + close_up(&mut t[from..end], held - first, limit)
 }
 
 // "the rows so freed become zero"
@@ -49,12 +63,17 @@ fn clear_rows(t: &mut [u32], p: usize, left: usize, held: usize)
     clear(&mut t[from..to]);
 }
 
-// The records above the limit are left, in their order, the rows behind them zero; the held number is theirs: how many they are.
+// The records above the limit are left, in their order, the rows behind them zero; the held number is theirs: how many they are. Where none leaves, no
+// word is written, the held number included.
 fn drop_rows(t: &mut [u32], p: usize, held: usize, limit: u32) -> usize
     requires { ⌜ Sound (now t) × (p < count (now t)) × (held ≡ Rattle.meaning.specs.Table.held (now t) p) × (held ≤ logMost) ⌝ }
     ensures { λ r. ⌜ Dropped (now (t .entry)) p limit r (now (t .exit)) × (r ≤ held) ⌝ }
 {
-    let left = close_log(t, p, held, limit);
+    let first = first_of(t, p, held, limit);
+    if first == held {
+        return held;
+    }
+    let left = close_log(t, p, first, held, limit);
     clear_rows(t, p, left, held);
     put_word(t, layout::held_at(p), left as u32);
     left

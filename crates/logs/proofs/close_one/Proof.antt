@@ -48,7 +48,7 @@ returns : tie.Need-returns
 returns c =
     let at-record-at = c .before .before in
     let start = at-record-at .before .before .before in
-    gone (start .args .row) (start .args .k) (start .args .limit) (start .args .log .now) (at-record-at .record-at .result)
+    gone (start .args .row) (start .args .k) (start .args .limit) (start .args .tail .now) (at-record-at .record-at .result)
     (at-record-at .record-at .ensures) (c .if1 .taken)
 
 same-length-2 : tie.Need-same-length-2
@@ -60,7 +60,7 @@ returns-2 c =
     let at-if1 = at-put-record .before .before in
     let at-record-at = at-if1 .before .before in
     let start = at-record-at .before .before .before in
-    stays (start .args .row) (start .args .k) (start .args .limit) (start .args .log .now) (at-record-at .record-at .result)
+    stays (start .args .row) (start .args .k) (start .args .limit) (start .args .tail .now) (at-record-at .record-at .result)
     (at-record-at .record-at .ensures) (at-if1 .if1 .left) (at-put-record .put-record .last .0) (at-put-record .put-record .ensures)
 
 pub close-one-spec : {M : Type 1} → statement M

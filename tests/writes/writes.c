@@ -1,0 +1,213 @@
+/* The stores of each step into its table, counted (watch.h). Of a purge: none before the first record that leaves, each later row of a record that stays
+ * once, one after the other, each freed row once, the held number once; none at all where nothing leaves. The same count has to find planted purges that
+ * leave the right words by too many stores. Of the other steps: the words stored beside the words that change. */
+#define _GNU_SOURCE
+#include "watch.h"
+
+typedef uint32_t purge_call(uint32_t *, size_t, uint8_t, uint32_t *, uint32_t *);
+
+enum { NODE = 1, LIMIT = 1000 };
+
+static unsigned long freed, freed_again; /* bytes of freed rows that were stored to, and those of them stored to more than once */
+
+#ifdef OWN_MEMSET
+/* The library clears freed rows by one call of memset. This one stores each byte once; a C library's may store a byte twice where its wide stores overlap. */
+void *memset(void *to, int value, size_t many) {
+    volatile uint8_t *at = to;
+    for (size_t i = 0; i < many; i++) at[i] = (uint8_t)value;
+    return to;
+}
+#endif
+
+/* Planted purges, right in every word that they leave. */
+static uint32_t planted(uint32_t *t, uint8_t node, uint32_t *removed, int early, int twice, int anew, int cleared) {
+    volatile uint32_t *log = t + record_at(node, 0, 0);
+    uint32_t held = t[held_at(node)], left = 0, first = 0;
+    while (first < held && log[4 * first + 1] > LIMIT) first++;
+    for (uint32_t i = 0; i < held; i++) {
+        uint32_t row[4] = {log[4 * i], log[4 * i + 1], log[4 * i + 2], log[4 * i + 3]};
+        if (row[1] <= LIMIT) continue;
+        if (early ? i + 1 >= first : i > first)
+            for (int again = 0; again <= twice; again++)
+                for (int w = 0; w < 4; w++) log[4 * left + (uint32_t)w] = row[w];
+        left++;
+    }
+    for (int again = 0; again <= cleared; again++)
+        for (uint32_t i = 4 * left; i < 4 * held; i++) log[i] = 0;
+    if (anew || left < held) *(volatile uint32_t *)(t + held_at(node)) = left;
+    *removed = held - left;
+    return 0;
+}
+#define PLANTED(name, ...) \
+    static uint32_t name(uint32_t *t, size_t len, uint8_t node, uint32_t *removed, uint32_t *lags) { \
+        return (void)len, (void)lags, planted(t, node, removed, __VA_ARGS__); \
+    }
+PLANTED(sparing, 0, 0, 0, 0)
+PLANTED(one_early, 1, 0, 0, 0)
+PLANTED(rows_twice, 0, 1, 0, 0)
+PLANTED(held_anew, 0, 0, 1, 0)
+PLANTED(cleared_twice, 0, 0, 0, 1)
+
+static const char *const kinds[] = {"none", "the first", "the last", "every second", "every second but the first", "all"};
+
+static int leaves(unsigned kind, uint32_t row, uint32_t held) {
+    switch (kind) {
+    case 0: return 0;
+    case 1: return row == 0;
+    case 2: return row + 1 == held;
+    case 3: return row % 2 == 0;
+    case 4: return row % 2 == 1;
+    default: return 1;
+    }
+}
+
+/* A sound table of three nodes whose node NODE holds so many records; `alike`: all that stay have the same words, so that a move changes nothing. */
+static void fill(unsigned kind, uint32_t held, int alike) {
+    for (size_t i = 0; i < REGION; i++) region[i] = (uint8_t)(i * 37 + 11);
+    memset(table, 0, WORDS * 4);
+    table[COUNT] = 3;
+    for (uint32_t p = 0; p < 3; p++) {
+        for (uint32_t q = 0; q < 3; q++) table[acknowledgement_at(p, q)] = LIMIT + (p + q) % 2, table[summary_at(p, q)] = 5000 + p;
+        uint32_t rows = p == NODE ? held : ROOM / 2;
+        table[held_at(p)] = rows;
+        for (uint32_t r = 0; r < rows; r++) {
+            int go = p == NODE ? leaves(kind, r, held) : 1;
+            table[record_at(p, r, 0)] = alike ? 1 : r % 3;
+            table[record_at(p, r, 1)] = go ? LIMIT - (alike ? 0 : r) : LIMIT + 1 + (alike ? 0 : r);
+            table[record_at(p, r, 2)] = alike ? 7 : 100 + r;
+            table[record_at(p, r, 3)] = alike ? 0x20 : r;
+        }
+    }
+    table[acknowledgement_at(NODE, 0)] = LIMIT;
+    for (uint32_t r = held; r < ROOM; r++)
+        for (uint32_t w = 0; w < 4; w++) table[record_at(NODE, r, w)] = 0xABCD0000u + r; /* past the held rows anything may stand */
+}
+
+/* How many of the rules a purge breaks. */
+static unsigned purged(purge_call *purge, unsigned kind, uint32_t held, int alike, unsigned *total) {
+    static uint8_t before[REGION];
+    fill(kind, held, alike);
+    memcpy(before, region, REGION);
+    uint32_t removed = UNSET, lags = UNSET, left = 0, first = held;
+    watch_begin();
+    uint32_t answer = purge(table, WORDS, NODE, &removed, &lags);
+    watch_end();
+    *total += stores;
+    uint32_t *due_words = (uint32_t *)(before + EDGE);
+    for (uint32_t r = 0; r < held; r++) {
+        if (leaves(kind, r, held)) {
+            first = r < first ? r : first;
+            continue;
+        }
+        memmove(due_words + record_at(NODE, left++, 0), due_words + record_at(NODE, r, 0), 16);
+    }
+    memset(due_words + record_at(NODE, left, 0), 0, (size_t)16 * (held - left));
+    due_words[held_at(NODE)] = left;
+    unsigned broken = answer != 0 || removed != held - left || memcmp(before, region, REGION) != 0;
+    /* every byte, the words around the table with it */
+    size_t log = EDGE + 4 * record_at(NODE, 0, 0), own = EDGE + 4 * held_at(NODE);
+    for (size_t i = 0; i < REGION; i++) {
+        int row = i >= log + (size_t)16 * first && i < log + (size_t)16 * held, cleared = row && i >= log + (size_t)16 * left;
+        unsigned allowed = first < held && (row || (i >= own && i < own + 4));
+        freed += cleared, freed_again += cleared && times[i] > 1;
+#ifndef OWN_MEMSET
+        if (cleared) continue; /* how often the C library's memset stores a byte is its own */
+#endif
+        broken += times[i] > allowed;
+    }
+    if (first == held) broken += stores != 0;
+    /* the rows of records that stay are stored one after the other */
+    size_t last = 0;
+    for (unsigned s = 0; s < stores; s++) {
+        size_t at = EDGE + first_byte[s];
+        if (at < log || at >= log + (size_t)16 * left) continue;
+        broken += at < last;
+        last = at;
+    }
+    return broken;
+}
+
+static unsigned all_purges(purge_call *purge, const char *told_of, unsigned *runs, unsigned *total) {
+    static const uint32_t held[] = {0, 1, 63, 64};
+    unsigned broken = 0;
+    for (size_t h = 0; h < LENGTH(held); h++)
+        for (unsigned kind = 0; kind < LENGTH(kinds); kind++)
+            for (int alike = 0; alike < 2; alike++) {
+                unsigned b = purged(purge, kind, held[h], alike, total);
+                if (b && told_of) printf("FAILED: %s: a purge of %s of %u held%s: %u bytes or stores too many\n", told_of, kinds[kind], held[h], alike ? ", all alike" : "", b);
+                broken += b != 0;
+                (*runs)++;
+            }
+    return broken;
+}
+
+/* The other steps: words stored, those stored more than once, words that change, and stores. */
+static void beside(const char *what, uint32_t (*step)(void)) {
+    static uint32_t before[WORDS];
+    memcpy(before, table, sizeof before);
+    watch_begin();
+    uint32_t answer = step();
+    watch_end();
+    unsigned words = 0, again = 0, partly = 0, changed = 0;
+    for (size_t w = 0; w < WORDS; w++) {
+        words += most(w) > 0, again += most(w) > 1, partly += least(w) != most(w);
+        changed += before[w] != table[w];
+        expect(most(w) > 0 || before[w] == table[w], what, "a word changed without a store");
+    }
+    expect(answer == 0 && partly == 0, what, "accepted, whole words");
+    printf("| %s | %u | %u | %u |\n", what, words, again, changed);
+}
+
+static uint32_t counts[2];
+static uint32_t write_step(void) { return pollencart_write(table, WORDS, 0, 9000, 7, 0x20); }
+static uint32_t session_0(void) { return pollencart_session(table, WORDS, 0, 1, 9000, 9001, 0, counts, counts + 1); }
+static uint32_t session_1(void) { return pollencart_session(table, WORDS, 0, 1, 9000, 9001, 1, counts, counts + 1); }
+static uint32_t session_2(void) { return pollencart_session(table, WORDS, 0, 1, 9000, 9001, 2, counts, counts + 1); }
+static uint32_t session_3(void) { return pollencart_session(table, WORDS, 0, 1, 9000, 9001, 3, counts, counts + 1); }
+static uint32_t purge_step(void) { return pollencart_purge(table, WORDS, 0, counts, counts + 1); }
+static uint32_t refused_step(void) { return pollencart_write(table, WORDS, 0, 1, 7, 0x20) == 5 ? 0 : 1; }
+
+/* Two of n nodes with eight records each, half of them new to the other; every other record of node 0 is acknowledged by all. */
+static void meeting(uint32_t n) {
+    memset(table, 0, WORDS * 4);
+    table[COUNT] = n;
+    for (uint32_t p = 0; p < n; p++) {
+        for (uint32_t q = 0; q < n; q++) table[summary_at(p, q)] = p < 2 && q == p ? 108 : 104, table[acknowledgement_at(p, q)] = 50 + (p + q) % 2;
+        table[held_at(p)] = 8;
+        for (uint32_t r = 0; r < 8; r++) {
+            table[record_at(p, r, 0)] = p % n, table[record_at(p, r, 1)] = p == 0 && r % 2 == 1 && r < 4 ? 40 : 101 + r;
+            table[record_at(p, r, 2)] = r, table[record_at(p, r, 3)] = 0x20;
+        }
+    }
+}
+
+int main(void) {
+    watch_open();
+    unsigned runs = 0, total = 0, none = 0, ignored = 0;
+    unsigned broken = all_purges(pollencart_purge, "the library", &runs, &total);
+    expect(broken == 0, "purges", "within their bounds");
+#ifdef OWN_MEMSET
+    expect(all_purges(sparing, "a sparing purge in C", &ignored, &none) == 0, "the count", "lets a sparing purge pass");
+    expect(all_purges(one_early, NULL, &ignored, &none) > 0, "planted", "a row stored before the first that leaves");
+    expect(all_purges(rows_twice, NULL, &ignored, &none) > 0, "planted", "each moved row stored twice");
+    expect(all_purges(held_anew, NULL, &ignored, &none) > 0, "planted", "the held number stored where nothing leaves");
+    expect(all_purges(cleared_twice, NULL, &ignored, &none) > 0, "planted", "the freed rows cleared twice");
+    static const uint32_t n[] = {2, 16};
+    for (size_t i = 0; i < LENGTH(n); i++) {
+        printf("| %u nodes | words stored | of them more than once | words that change |\n|---|---:|---:|---:|\n", n[i]);
+        meeting(n[i]), beside("a write", write_step);
+        meeting(n[i]), beside("a refused write", refused_step);
+        meeting(n[i]), beside("a session, neither side finishes", session_0);
+        meeting(n[i]), beside("a session, only a finishes", session_1);
+        meeting(n[i]), beside("a session, only b finishes", session_2);
+        meeting(n[i]), beside("a session, both finish", session_3);
+        meeting(n[i]), beside("a purge of two of eight", purge_step), beside("a purge of none", purge_step);
+    }
+    printf("writes: %u purges by %u stores within their bounds, 4 planted faults found, %lu checks, %lu failed\n", runs, total, checks, failures);
+#else
+    (void)none, (void)ignored, (void)sparing, (void)one_early, (void)rows_twice, (void)held_anew, (void)cleared_twice, (void)beside, (void)meeting;
+    (void)write_step, (void)session_0, (void)session_1, (void)session_2, (void)session_3, (void)purge_step, (void)refused_step, (void)least, (void)most;
+    printf("writes: with the C library's memset: %u purges by %u stores, %lu of %lu freed bytes stored more than once by it, %lu failed\n", runs, total, freed_again, freed, failures);
+#endif
+    return failures != 0;
+}
