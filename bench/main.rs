@@ -9,8 +9,8 @@ mod layout;
 #[path = "../tests/rust/src/model.rs"]
 mod model;
 
-use layout::{JOURNAL, TEXT, WORDS};
-use model::{Action, Table};
+use layout::{JOURNAL, LIST, TEXT, WORDS};
+use model::{Action, Record, Table};
 use std::hint::black_box;
 use std::time::Instant;
 
@@ -24,6 +24,7 @@ type FrameShort = unsafe extern "C" fn(*mut u8, usize, u8, *mut u32) -> u32;
 type Write = unsafe extern "C" fn(*mut u32, usize, u8, u32, u32, u8) -> u32;
 type Session = unsafe extern "C" fn(*mut u32, usize, u8, u8, u32, u32, u8, *mut u32, *mut u32) -> u32;
 type Purge = unsafe extern "C" fn(*mut u32, usize, u8, *mut u32, *mut u32) -> u32;
+type Deliver = unsafe extern "C" fn(*mut u32, usize, u8, *mut u32, usize, *mut u32) -> u32;
 type Count = unsafe extern "C" fn(*const u32, usize, *mut u32, *mut u32) -> u32;
 type ApplyLine = unsafe extern "C" fn(*mut u32, usize, *const u8, usize, *mut u32, *mut u32, *mut usize) -> u32;
 type ApplyLines = unsafe extern "C" fn(*mut u32, usize, *const u8, usize, *mut usize, *mut usize, *mut usize, *mut usize) -> u32;
@@ -40,9 +41,11 @@ struct Api {
     frame_write: FrameWrite,
     frame_session: FrameSession,
     frame_purge: FrameShort,
+    frame_deliver: FrameShort,
     write: Write,
     session: Session,
     purge: Purge,
+    deliver: Deliver,
     count: Count,
     apply_line: ApplyLine,
     apply_lines: ApplyLines,
@@ -50,7 +53,7 @@ struct Api {
 }
 
 macro_rules! api {
-    ($check_line:ident $read_line:ident $kind:ident $field:ident $frame_start:ident $frame_write:ident $frame_session:ident $frame_purge:ident $write:ident $session:ident $purge:ident $count:ident $apply_line:ident $apply_lines:ident $replay:ident) => {{
+    ($check_line:ident $read_line:ident $kind:ident $field:ident $frame_start:ident $frame_write:ident $frame_session:ident $frame_purge:ident $frame_deliver:ident $write:ident $session:ident $purge:ident $deliver:ident $count:ident $apply_line:ident $apply_lines:ident $replay:ident) => {{
         extern "C" {
             fn $check_line(l: *const u8, n: usize, p: *mut usize) -> u32;
             fn $read_line(l: *const u8, n: usize, v: *mut u32, m: usize, p: *mut usize) -> u32;
@@ -60,9 +63,11 @@ macro_rules! api {
             fn $frame_write(o: *mut u8, n: usize, p: u8, t: u32, b: u32, v: u8, r: *mut u32) -> u32;
             fn $frame_session(o: *mut u8, n: usize, a: u8, b: u8, x: u32, y: u32, c: u8, r: *mut u32) -> u32;
             fn $frame_purge(o: *mut u8, n: usize, p: u8, r: *mut u32) -> u32;
+            fn $frame_deliver(o: *mut u8, n: usize, p: u8, r: *mut u32) -> u32;
             fn $write(w: *mut u32, n: usize, p: u8, t: u32, b: u32, v: u8) -> u32;
             fn $session(w: *mut u32, n: usize, a: u8, b: u8, x: u32, y: u32, c: u8, r: *mut u32, s: *mut u32) -> u32;
             fn $purge(w: *mut u32, n: usize, p: u8, r: *mut u32, l: *mut u32) -> u32;
+            fn $deliver(w: *mut u32, n: usize, p: u8, l: *mut u32, m: usize, r: *mut u32) -> u32;
             fn $count(w: *const u32, n: usize, s: *mut u32, t: *mut u32) -> u32;
             fn $apply_line(w: *mut u32, n: usize, l: *const u8, m: usize, x: *mut u32, y: *mut u32, p: *mut usize) -> u32;
             fn $apply_lines(w: *mut u32, n: usize, l: *const u8, m: usize, x: *mut usize, y: *mut usize, z: *mut usize, p: *mut usize) -> u32;
@@ -77,9 +82,11 @@ macro_rules! api {
             frame_write: $frame_write,
             frame_session: $frame_session,
             frame_purge: $frame_purge,
+            frame_deliver: $frame_deliver,
             write: $write,
             session: $session,
             purge: $purge,
+            deliver: $deliver,
             count: $count,
             apply_line: $apply_line,
             apply_lines: $apply_lines,
@@ -90,9 +97,9 @@ macro_rules! api {
 
 fn apis() -> [Api; 3] {
     [
-        api!(pollencart_check_line pollencart_read_line pollencart_kind pollencart_field pollencart_frame_start pollencart_frame_write pollencart_frame_session pollencart_frame_purge pollencart_write pollencart_session pollencart_purge pollencart_count pollencart_apply_line pollencart_apply_lines pollencart_replay),
-        api!(plain_check_line plain_read_line plain_kind plain_field plain_frame_start plain_frame_write plain_frame_session plain_frame_purge plain_write plain_session plain_purge plain_count plain_apply_line plain_apply_lines plain_replay),
-        api!(clang_check_line clang_read_line clang_kind clang_field clang_frame_start clang_frame_write clang_frame_session clang_frame_purge clang_write clang_session clang_purge clang_count clang_apply_line clang_apply_lines clang_replay),
+        api!(pollencart_check_line pollencart_read_line pollencart_kind pollencart_field pollencart_frame_start pollencart_frame_write pollencart_frame_session pollencart_frame_purge pollencart_frame_deliver pollencart_write pollencart_session pollencart_purge pollencart_deliver pollencart_count pollencart_apply_line pollencart_apply_lines pollencart_replay),
+        api!(plain_check_line plain_read_line plain_kind plain_field plain_frame_start plain_frame_write plain_frame_session plain_frame_purge plain_frame_deliver plain_write plain_session plain_purge plain_deliver plain_count plain_apply_line plain_apply_lines plain_replay),
+        api!(clang_check_line clang_read_line clang_kind clang_field clang_frame_start clang_frame_write clang_frame_session clang_frame_purge clang_frame_deliver clang_write clang_session clang_purge clang_deliver clang_count clang_apply_line clang_apply_lines clang_replay),
     ]
 }
 
@@ -139,6 +146,7 @@ fn lines(rows: &mut Vec<Row>) {
         ("write", model::frame(Action::Write { node: 3, timestamp: 0x5F37_59DF, block: 0xDEAD_BEEF, verdict: 0x2A }).unwrap()),
         ("session", model::frame(Action::Session { a: 3, b: 11, ca: 0x5F37_59DF, cb: 0x0BAD_CAFE, outcome: 3 }).unwrap()),
         ("purge", model::frame(Action::Purge { node: 9 }).unwrap()),
+        ("delivery", model::frame(Action::Deliver { node: 9 }).unwrap()),
     ];
     for (name, mut line) in frames {
         line.pop();
@@ -216,6 +224,14 @@ fn frames(rows: &mut Vec<Row>) {
         }
     };
     rows.push(row("write a frame: purge", many, purge, |i| seen(model::frame(black_box(Action::Purge { node: i as u8 })))));
+    let deliver = |api: Api| {
+        move |i: usize| unsafe {
+            let (mut out, mut length) = ([0u8; 32], 0);
+            (api.frame_deliver)(out.as_mut_ptr(), 32, black_box(i as u8), &mut length);
+            black_box((out, length));
+        }
+    };
+    rows.push(row("write a frame: delivery", many, deliver, |i| seen(model::frame(black_box(Action::Deliver { node: i as u8 })))));
 }
 
 /// A cluster of n nodes, each with `held` records of its own at timestamps 1 and up.
@@ -236,10 +252,19 @@ fn call(api: Api, table: &mut [u32], action: Action) -> u32 {
             Action::Write { node, timestamp, block, verdict } => (api.write)(at, size, node, timestamp, block, verdict),
             Action::Session { a, b, ca, cb, outcome } => (api.session)(at, size, a, b, ca, cb, outcome, &mut x, &mut y),
             Action::Purge { node } => (api.purge)(at, size, node, &mut x, &mut y),
+            Action::Deliver { .. } => unreachable!("its list is told too"),
         }
     };
     black_box((x, y));
     answer
+}
+
+/// A delivery of node 0 into a list that has room for all; the answer is 0 where it is not refused and delivers as many as are due.
+fn delivered(api: Api, table: &mut [u32], list: &mut [u32], due: u32) -> u32 {
+    let mut many = 0;
+    let refusal = unsafe { (api.deliver)(table.as_mut_ptr(), table.len(), black_box(0), list.as_mut_ptr(), list.len(), &mut many) };
+    black_box(&list);
+    refusal + (many ^ due)
 }
 
 /// A sample of an operation on 24 copies of a table, which are made anew outside the time; it answers a refusal, which must be 0.
@@ -294,10 +319,37 @@ fn steps(rows: &mut Vec<Row>) {
         step(rows, &format!("session, 2 to each ({which})"), &some, session(99, 99));
         let mut purged = met.clone();
         purged.acknowledgements[0][..n as usize].fill(held / 2);
+        assert_eq!(purged.apply(Action::Deliver { node: 0 }).refusal, 0);
         step(rows, &format!("purge of half ({which})"), &purged, Action::Purge { node: 0 });
         step(rows, &format!("purge of none ({which})"), &met, Action::Purge { node: 0 });
     }
     step(rows, "session, 32 to each (16 nodes, 32 held)", &cluster(16, 32), session(99, 99));
+}
+
+/// A delivery of node 0: a log of so many records of n origins at timestamps 1 and up, in order or in reverse, of which the last `due` are above the mark.
+fn deliveries(rows: &mut Vec<Row>) {
+    for (name, n, held, due, reverse) in [
+        ("delivery of none (2 nodes, 4 held)", 2, 4, 0, false),
+        ("delivery of none (16 nodes, 32 held)", 16, 32, 0, false),
+        ("delivery of 8 in order (2 nodes, 8 held)", 2, 8, 8, false),
+        ("delivery of 8 in order (16 nodes, 32 held)", 16, 32, 8, false),
+        ("delivery of 64 in order (16 nodes, 64 held)", 16, 64, 64, false),
+        ("delivery of 64 in reverse order (16 nodes, 64 held)", 16, 64, 64, true),
+    ] {
+        let mut table = cluster(n, held);
+        let at = |i: u32| if reverse { held - i } else { i + 1 };
+        for i in 0..held {
+            table.logs[0][i as usize] = Record { origin: i % n, timestamp: at(i), block: i, verdict: 0x20 };
+        }
+        table.summaries[0][..n as usize].fill(held);
+        table.marks[0] = held - due;
+        assert_eq!(table.clone().apply(Action::Deliver { node: 0 }).delivered, due);
+        let c = |api: Api| {
+            let mut list = [0; LIST];
+            move |copy: &mut Vec<u32>| delivered(api, copy, &mut list, due)
+        };
+        on_copies(rows, name, &table, c, move |table| table.deliver(black_box(0), black_box(&mut [0; LIST])).map_or_else(|refusal| refusal, |_| 0));
+    }
 }
 
 /// A step's line applied to a caller's table.
@@ -358,6 +410,7 @@ fn applies(rows: &mut Vec<Row>) {
         line_applied(rows, &format!("a line applied: write ({which})"), &table, Action::Write { node: 1, timestamp: 99, block: 1, verdict: 0x20 });
         line_applied(rows, &format!("a line applied: session, none carried ({which})"), &table, Action::Session { a: 0, b: 1, ca: 99, cb: 99, outcome: 3 });
         line_applied(rows, &format!("a line applied: purge of none ({which})"), &table, Action::Purge { node: 0 });
+        line_applied(rows, &format!("a line applied: delivery of all ({which})"), &table, Action::Deliver { node: 0 });
     }
     let writes: Vec<Action> = (0..1000).map(|i| Action::Write { node: (i % 16) as u8, timestamp: i + 1, block: i, verdict: 0x20 }).collect();
     lines_applied(rows, "a line of many applied: write", &writes);
@@ -365,6 +418,8 @@ fn applies(rows: &mut Vec<Row>) {
     lines_applied(rows, "a line of many applied: session, none carried", &none);
     let purges: Vec<Action> = (0..2400).map(|i| Action::Purge { node: (i % 16) as u8 }).collect();
     lines_applied(rows, "a line of many applied: purge of none", &purges);
+    let deliveries: Vec<Action> = (0..2400).map(|i| Action::Deliver { node: (i % 16) as u8 }).collect();
+    lines_applied(rows, "a line of many applied: delivery of none", &deliveries);
 }
 
 /// A journal of a start and these steps, with its replay's text checked against the model once.
@@ -424,6 +479,11 @@ fn journals(rows: &mut Vec<Row>) {
         .unwrap();
     eprintln!("the full journal: {} steps, {refused} refused", mixed.len());
     journal(rows, "the run of a full journal", 7, &mixed, 1);
+    let deliveries: Vec<Action> = (0..many).map(|i| Action::Deliver { node: (i % 16) as u8 }).collect();
+    journal(rows, "a journal's line and step: delivery of none", 16, &deliveries, deliveries.len());
+    // the same steps, each purge after a delivery at its node, so that records leave and room comes free
+    let with: Vec<Action> = mixed.iter().flat_map(|&action| if let Action::Purge { node } = action { vec![Action::Deliver { node }, action] } else { vec![action] }).collect();
+    journal(rows, "the run of a full journal with deliveries", 7, &with, 1);
 }
 
 fn counts(rows: &mut Vec<Row>) {
@@ -454,6 +514,7 @@ fn main() {
     lines(&mut rows);
     frames(&mut rows);
     steps(&mut rows);
+    deliveries(&mut rows);
     applies(&mut rows);
     journals(&mut rows);
     counts(&mut rows);

@@ -24,6 +24,8 @@ const char *pollencart_refusal_text(uint32_t number)
         return "a write's timestamp is not above, or a session's reading is below, the node's own summary entry";
     case POLLENCART_FULL:
         return "a write finds 64 records held, or a finishing side would hold more than 64";
+    case POLLENCART_LIST_SHORT:
+        return "the lent list has fewer than four words for each record that is due";
     case POLLENCART_KIND:
         return "the kind is unknown";
     case POLLENCART_DIGIT:

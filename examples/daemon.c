@@ -1,5 +1,5 @@
 /* A scrubber daemon in small: it makes a frame for each finding, applies the frames as a partner would,
- * one by one and many at once, keeps the cluster's table, runs sessions, purges, and prints the counts and the gap. */
+ * one by one and many at once, keeps the cluster's table, runs sessions, delivers, purges, and prints the counts and the gap. */
 #include "pollencart.h"
 
 #include <inttypes.h>
@@ -65,6 +65,17 @@ static void meet(uint8_t a, uint8_t b, uint32_t now, uint8_t outcome)
     printf("session %d with %d at %" PRIu32 ", outcome %d: %" PRIu32 " to %d, %" PRIu32 " to %d\n", a, b, now, outcome, to_a, a, to_b, b);
 }
 
+/* What has become certain at a node goes to its repair planner, in the order that is the same at every node. */
+static void deliver(uint8_t node)
+{
+    uint32_t list[POLLENCART_LIST], delivered;
+    refused("delivery", pollencart_deliver(table, POLLENCART_TABLE, node, list, POLLENCART_LIST, &delivered));
+    printf("delivery of node %d up to %" PRIu32 ": %" PRIu32 " findings\n", node, pollencart_mark(table, POLLENCART_TABLE, node), delivered);
+    for (const uint32_t *r = list; r < list + 4 * delivered; r += 4)
+        printf("  node %" PRIu32 " at %" PRIu32 ": block %" PRIu32 ", verdict %02" PRIX32 "\n", r[0], r[1], r[2], r[3]);
+}
+
+/* Only what was delivered can leave: a node delivers first. */
 static void purge(uint8_t node)
 {
     uint32_t removed, lags;
@@ -104,14 +115,17 @@ int main(void)
     for (uint8_t node = 0; node < NODES; node++)
         count(node);
 
-    purge(0); /* nothing leaves while a node may not know it */
+    deliver(0); /* all five are certain here */
+    purge(0);   /* nothing leaves while a node may not know it */
     for (uint32_t round = 0; round < 2; round++) {
         meet(0, 1, 14 + 3 * round, POLLENCART_FINISH_BOTH);
         meet(1, 2, 15 + 3 * round, POLLENCART_FINISH_BOTH);
         meet(0, 2, 16 + 3 * round, POLLENCART_FINISH_BOTH);
     }
-    for (uint8_t node = 0; node < NODES; node++)
+    for (uint8_t node = 0; node < NODES; node++) {
+        deliver(node); /* the others get the same five, node 0 nothing again */
         purge(node);
+    }
 
     uint32_t late = pollencart_write(table, POLLENCART_TABLE, 0, 3, 1, POLLENCART_VERDICT_GOOD);
     printf("a write at 3, behind node 0's entry of %" PRIu32 ": refused with %" PRIu32 "\n", pollencart_summary(table, POLLENCART_TABLE, 0, 0), late);

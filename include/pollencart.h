@@ -12,7 +12,8 @@
  *
  * A null pointer is allowed where its length is 0, and gets what any list of length 0 gets:
  *   check_line and read_line 18 at place 0 (read_line of a frame into no words 17); kind and field 0; the frame writers 17 (after 15 for n and 2 for the outcome) and the length 0;
- *   fresh, write, session, purge and count_node 1, and counts of 0; summary, acknowledgement, held and record 0;
+ *   fresh, write, session, purge, deliver and count_node 1, and counts of 0; summary, acknowledgement, held, mark and record 0;
+ *   deliver into no list 0 where nothing is due, else 7, and counts of 0;
  *   apply_line 18 at place 0 and counts of 0 for no line, whatever the table, and 1 for a step's line and no table;
  *   apply_lines 0, counts of 0 and the places 0 for no lines on a sound table, and 1 with the same zeros for no table;
  *   count 0, and counts of 0; replay the text `BAD 1 15 0` for no journal, and the answer 0 for no table or no out.
@@ -44,6 +45,7 @@ const char *pollencart_version(void);
 #define POLLENCART_TWICE 4         /* a session names one node twice */
 #define POLLENCART_CLOCK 5         /* a write's timestamp is not above, or a session's reading is below, the node's own summary entry */
 #define POLLENCART_FULL 6          /* a write finds 64 records held, or a finishing side would hold more than 64 */
+#define POLLENCART_LIST_SHORT 7    /* the lent list has fewer than four words for each record that is due */
 #define POLLENCART_KIND 11         /* the kind is unknown */
 #define POLLENCART_DIGIT 12        /* a character is not 0 to 9 or A to F */
 #define POLLENCART_SUM 13          /* the bytes do not add up to zero */
@@ -65,6 +67,7 @@ const char *pollencart_refusal_text(uint32_t number);
 #define POLLENCART_KIND_WRITE 1
 #define POLLENCART_KIND_SESSION 2
 #define POLLENCART_KIND_PURGE 3
+#define POLLENCART_KIND_DELIVER 5
 
 /* The outcomes of a session: which sides finish. */
 #define POLLENCART_FINISH_NEITHER 0
@@ -83,8 +86,11 @@ const char *pollencart_refusal_text(uint32_t number);
 /* The bytes of the longest frame, its LF included. */
 #define POLLENCART_FRAME 27
 
-/* The words of a table. */
-#define POLLENCART_TABLE 4625
+/* The words of a table: 4,625 before version 0.2.0. */
+#define POLLENCART_TABLE 4641
+
+/* The words of a list that every delivery fits in: 64 records of 4. */
+#define POLLENCART_LIST 256
 
 /* Frames: one line of uppercase hexadecimal. The four readers take a line without its LF and leave it as it is.
  *
@@ -100,10 +106,11 @@ const char *pollencart_refusal_text(uint32_t number);
  * read_line:  the same, and for a frame the kind and all fields at once into the first POLLENCART_VALUES of the words lent: values[0] is the
  *             kind, then come its fields as below, then 0. A refused line leaves the words as they are, and so does 17, given after the
  *             others, at place 0, where values_len is below POLLENCART_VALUES.
- * kind:       0 start, 1 write, 2 session, 3 purge (POLLENCART_KIND_..). 0 for a line that check_line refuses: ask it first.
+ * kind:       0 start, 1 write, 2 session, 3 purge, 5 delivery (POLLENCART_KIND_..). 0 for a line that check_line refuses: ask it first.
  * field:      the field at this place among the kind's fields, from 0.
  *               start: n              write: node, timestamp, block, verdict
  *               purge: node           session: a, b, ca, cb, outcome
+ *               delivery: node
  *             0 for a line that check_line refuses, and for a place at which the kind has no field.
  *
  * Before version 0.2.0 there was pollencart_check, without a place, and 11 stood for 18, 19 and 20 too. It is gone, and POLLENCART_SHAPE with it, so that
@@ -119,7 +126,8 @@ uint32_t pollencart_field(const uint8_t *line, size_t line_len, uint32_t index);
  *   start:   15 if n is not 2 to 16, then 17 if out_len is below 7;
  *   write:   17 if out_len is below 25;
  *   session: 2 if outcome is above 3, then 17 if out_len is below 27;
- *   purge:   17 if out_len is below 7.
+ *   purge:   17 if out_len is below 7;
+ *   deliver: 17 if out_len is below 7.
  * POLLENCART_FRAME bytes are enough for each. */
 uint32_t pollencart_frame_start(uint8_t *out, size_t out_len, uint8_t n, uint32_t *length);
 uint32_t pollencart_frame_write(uint8_t *out, size_t out_len, uint8_t node, uint32_t timestamp, uint32_t block, uint8_t verdict,
@@ -127,6 +135,7 @@ uint32_t pollencart_frame_write(uint8_t *out, size_t out_len, uint8_t node, uint
 uint32_t pollencart_frame_session(uint8_t *out, size_t out_len, uint8_t a, uint8_t b, uint32_t ca, uint32_t cb, uint8_t outcome,
                                   uint32_t *length);
 uint32_t pollencart_frame_purge(uint8_t *out, size_t out_len, uint8_t node, uint32_t *length);
+uint32_t pollencart_frame_deliver(uint8_t *out, size_t out_len, uint8_t node, uint32_t *length);
 
 /* A table is POLLENCART_TABLE words, kept by the caller between calls:
  *   word 0         n, the number of nodes, 2 to 16; nodes are numbered from 0
@@ -134,37 +143,52 @@ uint32_t pollencart_frame_purge(uint8_t *out, size_t out_len, uint8_t node, uint
  *   from word 257  16 rows of 16: its acknowledgements. Entry q: what the node knows that q has acknowledged
  *   from word 513  16 words: the number of records in its log, 0 to 64
  *   from word 529  16 logs of 64 rows of 4: origin, timestamp, block, verdict
+ *   from word 4625 16 words: its mark, the timestamp up to which its records were delivered, 0 at first
  * It is sound if it has so many words, n is 2 to 16, and in each log of a node below n at most 64 records are held, each with
- * an origin below n and a verdict of at most 255. Rows and entries at or beyond n are never read or written by a step.
+ * an origin below n and a verdict of at most 255; of marks nothing is asked. Rows and entries at or beyond n are never read or
+ * written by a step.
  *
  * fresh: n is set and every other word becomes 0. Answers 1 and changes nothing if n is not 2 to 16 or table_len is not
  * POLLENCART_TABLE. This call alone takes words that are not a table yet. */
 uint32_t pollencart_fresh(uint32_t *table, size_t table_len, uint32_t n);
 
-/* The three actions change the table and answer 0. A refused call changes no word of the table, stores 0 for each count and
- * answers the first number of 1 to 6 that applies.
+/* The four actions change the table and answer 0. A refused call changes no word of the table, stores 0 for each count and
+ * answers the first number of 1 to 7 that applies.
  *
  * write:   the node's finding goes after the last record of its log, and its own summary entry becomes the timestamp.
  *          Refused with 1, 3, 5 (the timestamp is not above the own entry) or 6 (64 are held).
  * session: a and b exchange at readings ca and cb. outcome: 0 neither side finishes, 1 only a, 2 only b, 3 both
  *          (POLLENCART_FINISH_..). What was carried to each is stored through to_a and to_b, 0 for a side that does not finish.
  *          Refused with 1, 2, 3, 4, 5 (a reading is below its node's own entry) or 6 (a finishing side would hold more than 64).
- * purge:   the node's records up to the smallest of its acknowledgements leave; how many is stored through removed. The node whose
- *          acknowledgement that is, the lowest among equals, is stored through lags, whether a record left or not: what is still
- *          held has a timestamp above it, so that node holds it up. No row before the first record that leaves is stored to, and
- *          where none leaves no word of the table. Refused with 1 or 3, and then lags is 0. */
+ * purge:   the node's records that are not above the smallest of its acknowledgements, and not above its mark, leave; how many is
+ *          stored through removed. Deliver first: before its first delivery nothing leaves a node. The node whose acknowledgement
+ *          is that smallest, the lowest among equals, is stored through lags, whether a record left or not: what is still held has
+ *          a timestamp above that acknowledgement or above the mark. No row before the first record that leaves is stored to, and
+ *          where none leaves no word of the table. Refused with 1 or 3, and then lags is 0.
+ * deliver: what has become certain at the node is written into list, in the order that is the same at every node. Due are the records of
+ *          its log with a timestamp above its mark and not above the smallest of its summary entries: no other record up to there can
+ *          come any more. They come by timestamp, then origin, from list[0] on, four words each as in a log (origin, timestamp, block,
+ *          verdict); how many they are is stored through delivered, and the rest of the list stays as it is. Then the mark becomes that
+ *          smallest entry, where that is greater, so that no record is delivered twice. The log stays: a purge shortens it.
+ *          All that a node is given, delivery after delivery, is a beginning of what any other node is given, or the other way round.
+ *          Refused with 1, 3 or 7 (list_len is below four for each record that is due); refused it leaves the list as it is too.
+ *          POLLENCART_LIST words are always enough; a list of any length is taken. */
 uint32_t pollencart_write(uint32_t *table, size_t table_len, uint8_t node, uint32_t timestamp, uint32_t block, uint8_t verdict);
 uint32_t pollencart_session(uint32_t *table, size_t table_len, uint8_t a, uint8_t b, uint32_t ca, uint32_t cb, uint8_t outcome,
                             uint32_t *to_a, uint32_t *to_b);
 uint32_t pollencart_purge(uint32_t *table, size_t table_len, uint8_t node, uint32_t *removed, uint32_t *lags);
+uint32_t pollencart_deliver(uint32_t *table, size_t table_len, uint8_t node, uint32_t *list, size_t list_len, uint32_t *delivered);
 
-/* From lines to the table. Both calls read what check_line reads and do what the three actions do, and nothing else; a refusal
+/* From lines to the table. Both calls read what check_line reads and do what the four actions do, and nothing else; a refusal
  * changes no word of the table. Lines are those of a table that is there already: a start among them is refused with 15.
+ * A delivery's line raises the mark and counts what was due, as with a list that has room for all, so that 7 never comes here; its
+ * records go to no one. Who wants them calls pollencart_deliver.
  *
  * apply_line:  one line, without its LF. Answers 0, or the line's own refusal with its place as check_line gives them (15 at place
  *              0 also for a start), which comes before anything about the table; then the step's: the first of 1 to 6 that applies,
  *              with place 0. What the step reports is stored through first and second: for a session what was carried to a and to b,
- *              for a purge what was removed and the node that lags, for a write 0 and 0. Both are 0 if refused.
+ *              for a purge what was removed and the node that lags, for a delivery what was due and 0, for a write 0 and 0. Both are
+ *              0 if refused.
  * apply_lines: many lines, each ended by its LF, one after another, with one look over the table at the beginning. A refused step is
  *              counted and passed over; the first refused line ends the call, and the steps before it stay applied.
  *              Answers 0 where the end of the lines was reached, the number of check_line for the refused line, 14 where bytes are
@@ -198,11 +222,13 @@ uint32_t pollencart_apply_lines(uint32_t *table, size_t table_len, const uint8_t
  * summary:         the node's summary entry for the origin.
  * acknowledgement: the node's acknowledgement entry of another.
  * held:            the number of records in the node's log.
+ * mark:            the timestamp up to which the node's records were delivered.
  * record:          one word of the record at this index of the node's log, from 0, oldest first.
  *                  word: 0 origin, 1 timestamp, 2 block, 3 verdict. */
 uint32_t pollencart_summary(const uint32_t *table, size_t table_len, uint8_t node, uint8_t origin);
 uint32_t pollencart_acknowledgement(const uint32_t *table, size_t table_len, uint8_t node, uint8_t of);
 uint32_t pollencart_held(const uint32_t *table, size_t table_len, uint8_t node);
+uint32_t pollencart_mark(const uint32_t *table, size_t table_len, uint8_t node);
 uint32_t pollencart_record(const uint32_t *table, size_t table_len, uint8_t node, uint32_t index, uint32_t word);
 
 /* The verdict count: scrubbed is the number of records with a verdict of 10 to 4F, touched of those with 20 to 4F. Both are
@@ -219,7 +245,8 @@ uint32_t pollencart_count_node(const uint32_t *table, size_t table_len, uint8_t 
  *
  * Answers 0 and changes nothing if table_len is not POLLENCART_TABLE or out_len is below POLLENCART_TEXT, which is enough for every
  * text. Otherwise there is a text, never empty, and it does not depend on what the table held:
- *   - the journal came to its end: N, STEPS and REFUSED, then a line a node. A refused step is counted and passed over.
+ *   - the journal came to its end: N, STEPS and REFUSED, then a line a node. A refused step is counted and passed over. A delivery
+ *     is a step; its records go to no one, as with apply_lines.
  *     The table is a fresh one after all steps, sound.
  *   - a line was refused: `BAD line number place`, number and place as check_line gives them; 14 for bytes that no LF ends, its
  *     place the number of bytes left; and 15 at place 0 also for a first line that is no start, for a later one that is, and for

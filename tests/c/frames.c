@@ -112,7 +112,8 @@ static uint32_t put(const struct frame *x, uint8_t *out, size_t len, uint32_t *l
     case 0: return pollencart_frame_start(out, len, (uint8_t)f[0], length);
     case 1: return pollencart_frame_write(out, len, (uint8_t)f[0], f[1], f[2], (uint8_t)f[3], length);
     case 2: return pollencart_frame_session(out, len, (uint8_t)f[0], (uint8_t)f[1], f[2], f[3], (uint8_t)f[4], length);
-    default: return pollencart_frame_purge(out, len, (uint8_t)f[0], length);
+    case 3: return pollencart_frame_purge(out, len, (uint8_t)f[0], length);
+    default: return pollencart_frame_deliver(out, len, (uint8_t)f[0], length);
     }
 }
 
@@ -121,7 +122,8 @@ static size_t spell(const struct frame *x, char *text) {
     const uint32_t *f = x->f;
     switch (x->kind) {
     case 0:
-    case 3: sprintf(text, "%02X%02" PRIX32, x->kind, f[0]); break;
+    case 3:
+    case 5: sprintf(text, "%02X%02" PRIX32, x->kind, f[0]); break;
     case 1: sprintf(text, "01%02" PRIX32 "%08" PRIX32 "%08" PRIX32 "%02" PRIX32, f[0], f[1], f[2], f[3]); break;
     default: sprintf(text, "02%02" PRIX32 "%02" PRIX32 "%08" PRIX32 "%08" PRIX32 "%02" PRIX32, f[0], f[1], f[2], f[3], f[4]); break;
     }
@@ -133,7 +135,7 @@ static size_t spell(const struct frame *x, char *text) {
 
 /* Writes it into every length of lent bytes; what should be refused with `before` is, however few the bytes. */
 static void writes(const struct frame *x, uint32_t before) {
-    static const uint32_t counts[] = {1, 4, 5, 1};
+    static const uint32_t counts[] = {1, 4, 5, 1, 0, 1};
     char text[MOST];
     size_t need = spell(x, text);
     for (size_t len = 0; len <= MOST; len++) {
@@ -161,9 +163,13 @@ int main(void) {
     refused("04", POLLENCART_KIND, 0);
     refused("0400FC", POLLENCART_KIND, 0);
     refused("0400FF", POLLENCART_KIND, 0);
+    refused("06", POLLENCART_KIND, 0);
+    refused("0600FA", POLLENCART_KIND, 0);
     refused("FF0001", POLLENCART_KIND, 0);
     refused("00", POLLENCART_LENGTH, 2);
     refused("0300", POLLENCART_LENGTH, 4);
+    refused("0500", POLLENCART_LENGTH, 4);
+    refused("0500FB00", POLLENCART_LENGTH, 6);
     refused("0002FE00", POLLENCART_LENGTH, 6);
     refused("0100000000050000001010", POLLENCART_LENGTH, 22);
     refused("0100000000050000001010DA00", POLLENCART_LENGTH, 24);
@@ -171,6 +177,7 @@ int main(void) {
     refused("02000100000006000000040400", POLLENCART_LINE_OUTCOME, 22);
     refused("0002FF", POLLENCART_SUM, 4);
     refused("0001FE", POLLENCART_SUM, 4);
+    refused("0500FC", POLLENCART_SUM, 4);
     refused("020001000000060000000403F1", POLLENCART_SUM, 24);
     refused("0001FF", POLLENCART_START, 0);
     refused("0011EF", POLLENCART_START, 0);
@@ -185,16 +192,19 @@ int main(void) {
     reads("0100000000050000001010DA", 0, 0, 1, (const uint32_t[]){0, 5, 16, 16}, 4);
     reads("020001000000060000000403F0", 0, 0, 2, (const uint32_t[]){0, 1, 6, 4, 3}, 5);
     reads("0300FD", 0, 0, 3, (const uint32_t[]){0}, 1);
+    reads("0500FB", 0, 0, POLLENCART_KIND_DELIVER, (const uint32_t[]){0}, 1);
     damaged("0002FE");
     damaged("0100000000050000001010DA");
     damaged("020001000000060000000403F0");
     damaged("0300FD");
+    damaged("0500FB");
     for (uint32_t n = 0; n < 256; n++) {
         writes(&(struct frame){0, {n}}, n < 2 || n > NODES ? POLLENCART_START : 0);
         writes(&(struct frame){1, {255 - n, n * 0x01020304u, 0xFFFFFFFFu - n * 0x00010001u, n}}, 0);
         writes(&(struct frame){2, {n, 255 - n, 0x80000000u + n, n * 0x01000001u, n}}, n > 3 ? POLLENCART_OUTCOME : 0);
         writes(&(struct frame){2, {n, n, n * 0x10010000u, 0xFFFFFFFFu - n, n % 4}}, 0);
         writes(&(struct frame){3, {n}}, 0);
+        writes(&(struct frame){5, {n}}, 0);
     }
     return told("frames");
 }

@@ -17,7 +17,9 @@ enum {
     ACKNOWLEDGEMENT = SUMMARY + NODES * NODES,
     HELD = ACKNOWLEDGEMENT + NODES * NODES,
     LOG = HELD + NODES,
-    WORDS = LOG + NODES * ROOM * RECORD,
+    MARK = LOG + NODES * ROOM * RECORD,
+    WORDS = MARK + NODES,
+    LIST = ROOM * RECORD, /* words of a list that every delivery fits in */
     TEXT = 12288,    /* bytes that a replay's text has room in */
     JOURNAL = 65536  /* bytes of a journal at most */
 };
@@ -25,6 +27,7 @@ enum {
 static inline size_t summary_at(uint32_t p, uint32_t o) { return SUMMARY + (size_t)NODES * p + o; }
 static inline size_t acknowledgement_at(uint32_t p, uint32_t q) { return ACKNOWLEDGEMENT + (size_t)NODES * p + q; }
 static inline size_t held_at(uint32_t p) { return HELD + (size_t)p; }
+static inline size_t mark_at(uint32_t p) { return MARK + (size_t)p; }
 static inline size_t record_at(uint32_t p, uint32_t row, uint32_t word) { return LOG + (size_t)RECORD * ((size_t)ROOM * p + row) + word; }
 
 #endif

@@ -7,6 +7,7 @@
 #define WRITE_05 "0100000000050000001010DA" /* node 0 at 5, block 16, verdict 10 */
 #define SESSION_6_4 "020001000000060000000403F0" /* 0 with 1 at 6 and 4, both finish */
 #define PURGE_0 "0300FD"
+#define DELIVER_0 "0500FB"
 #define START_2 "0002FE"
 
 static uint8_t bytes[GUARD + 4096 + GUARD], kept[sizeof bytes];
@@ -92,6 +93,16 @@ static void example(void) {
     stands("a purge's line");
     for (uint32_t q = 0; q < 2; q++) set(acknowledgement_at(0, q), 6 - q);
     w = lend(), x = y = UNSET, place = UNSET, at = text(PURGE_0, 6);
+    expect(pollencart_apply_line(w, WORDS, at, 6, &x, &y, &place) == 0 && place == 0 && x == 0 && y == 1, "a purge before the delivery", "the answer");
+    stands("a purge before the delivery");
+    set(summary_at(0, 1), 5); /* all up to 5 has come */
+    w = lend(), x = y = UNSET, place = UNSET, at = text(DELIVER_0, 6);
+    expect(pollencart_apply_line(w, WORDS, at, 6, &x, &y, &place) == 0 && place == 0 && x == 1 && y == 0, "a delivery's line", "the answer");
+    set(mark_at(0), 5), stands("a delivery's line");
+    w = lend(), x = y = UNSET, place = UNSET, at = text(DELIVER_0, 6);
+    expect(pollencart_apply_line(w, WORDS, at, 6, &x, &y, &place) == 0 && place == 0 && x == 0 && y == 0, "a delivery of none", "the answer");
+    stands("a delivery of none");
+    w = lend(), x = y = UNSET, place = UNSET, at = text(PURGE_0, 6);
     expect(pollencart_apply_line(w, WORDS, at, 6, &x, &y, &place) == 0 && place == 0 && x == 1 && y == 1, "a purge of one", "the answer");
     set(held_at(0), 0);
     for (uint32_t word = 1; word < RECORD; word++) set(record_at(0, 0, word), 0);
@@ -121,6 +132,8 @@ static void refusals(void) {
     line("a line with its LF", PURGE_0 "\n", WORDS, 12, 6);
     line("a wrong sum", "0300FE", WORDS, 13, 4);
     line("a purge of node 2", "0302FB", WORDS, 3, 0);
+    line("a delivery of node 2", "0502F9", WORDS, 3, 0);
+    line("a delivery cut", "0500", WORDS, 19, 4);
     line("0 with 0", "020000000000060000000403F1", WORDS, 4, 0);
     line("a write at 0", "0100000000000000001010DF", WORDS, 5, 0);
     set(held_at(0), 64);
@@ -145,6 +158,9 @@ static void places(void) {
     fresh();
     lines("no line", "", 0, 0, 0, 0, 0);
     lines("a purge", PURGE_0 "\n", 0, 1, 0, 7, 0);
+    lines("a delivery of none", DELIVER_0 "\n", 0, 1, 0, 7, 0);
+    lines("deliveries, one refused", DELIVER_0 "\n0502F9\n" DELIVER_0 "\n", 0, 3, 1, 21, 0);
+    lines("a delivery's wrong sum", PURGE_0 "\n0500FC\n", 13, 1, 0, 7, 4);
     lines("no LF", PURGE_0, 14, 0, 0, 0, 6);
     lines("no LF after a line", PURGE_0 "\n" PURGE_0, 14, 1, 0, 7, 6);
     lines("an empty line", "\n" PURGE_0 "\n", 18, 0, 0, 0, 0);

@@ -50,6 +50,9 @@ static void lists(uint8_t *bytes, uint32_t *words) {
     length = UNSET;
     expect("frame_purge", pollencart_frame_purge(bytes, 0, 0, &length), POLLENCART_ROOM);
     expect("its length", length, 0);
+    length = UNSET;
+    expect("frame_deliver", pollencart_frame_deliver(bytes, 0, 0, &length), POLLENCART_ROOM);
+    expect("its length", length, 0);
 
     uint32_t scrubbed = UNSET, touched = UNSET;
     expect("count", pollencart_count(words, 0, &scrubbed, &touched), 0);
@@ -68,6 +71,14 @@ static void tables(uint32_t *table) {
     expect("purge", pollencart_purge(table, 0, 0, &removed, &lags), POLLENCART_UNSOUND);
     expect("removed", removed, 0);
     expect("lags", lags, 0);
+    uint32_t delivered = UNSET, list[POLLENCART_LIST] = {UNSET};
+    expect("deliver", pollencart_deliver(table, 0, 0, list, POLLENCART_LIST, &delivered), POLLENCART_UNSOUND);
+    expect("delivered", delivered, 0);
+    delivered = UNSET;
+    expect("deliver, no list either", pollencart_deliver(table, 0, 0, table, 0, &delivered), POLLENCART_UNSOUND);
+    expect("delivered", delivered, 0);
+    expect("the list", list[0], UNSET);
+    expect("mark", pollencart_mark(table, 0, 0), 0);
     expect("summary", pollencart_summary(table, 0, 0, 0), 0);
     expect("acknowledgement", pollencart_acknowledgement(table, 0, 0, 0), 0);
     expect("held", pollencart_held(table, 0, 0), 0);
@@ -75,6 +86,24 @@ static void tables(uint32_t *table) {
     expect("count_node", pollencart_count_node(table, 0, 0, &scrubbed, &touched), POLLENCART_UNSOUND);
     expect("scrubbed", scrubbed, 0);
     expect("touched", touched, 0);
+}
+
+/* Lists of length 0: enough where nothing is due, too short where something is. */
+static void deliveries(uint32_t *list) {
+    static uint32_t table[POLLENCART_TABLE];
+    uint32_t delivered = UNSET, x = UNSET, y = UNSET;
+    expect("fresh", pollencart_fresh(table, POLLENCART_TABLE, 2), 0);
+    expect("deliver none", pollencart_deliver(table, POLLENCART_TABLE, 0, list, 0, &delivered), 0);
+    expect("delivered", delivered, 0);
+    expect("write", pollencart_write(table, POLLENCART_TABLE, 0, 5, 16, POLLENCART_VERDICT_CACHE), 0);
+    expect("session", pollencart_session(table, POLLENCART_TABLE, 0, 1, 6, 6, POLLENCART_FINISH_BOTH, &x, &y), 0);
+    delivered = UNSET;
+    expect("deliver one", pollencart_deliver(table, POLLENCART_TABLE, 0, list, 0, &delivered), POLLENCART_LIST_SHORT);
+    expect("delivered", delivered, 0);
+    expect("the mark", pollencart_mark(table, POLLENCART_TABLE, 0), 0);
+    delivered = UNSET;
+    expect("deliver at node 2", pollencart_deliver(table, POLLENCART_TABLE, 2, list, 0, &delivered), POLLENCART_NODE);
+    expect("delivered", delivered, 0);
 }
 
 /* Lines and tables of length 0, each with the other there and both. */
@@ -128,6 +157,8 @@ int main(void) {
     lists(&byte, &word);
     tables(NULL);
     tables(&word);
+    deliveries(NULL);
+    deliveries(&word);
     lines(NULL, NULL);
     lines(&byte, &word);
     replays(NULL, NULL);

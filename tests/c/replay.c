@@ -37,17 +37,23 @@ static size_t say(const char *lines) {
 
 #define START "0002FE\n"
 #define WRITE "0100000000050000001010DA\n"
-#define REST                                                                                                                          \
-    "020001000000060000000403F0\n020001000000070000000701EE\n0300FD\n020001000000080000000803EA\n0300FD\n"
+#define REST "020001000000060000000403F0\n020001000000070000000701EE\n0300FD\n020001000000080000000803EA\n"
+#define DELIVER "0500FB\n"
+#define PURGE "0300FD\n"
 
 int main(void) {
-    const char *whole = "N 2 STEPS 6 REFUSED 0\n0 S 8 8 K 7 6 L 0\n1 S 8 8 K 7 6 L 1\n";
-    size_t n = say(START WRITE REST);
+    const char *undelivered = "N 2 STEPS 6 REFUSED 0\n0 S 8 8 K 7 6 L 1\n1 S 8 8 K 7 6 L 1\n";
+    const char *whole = "N 2 STEPS 7 REFUSED 0\n0 S 8 8 K 7 6 L 0\n1 S 8 8 K 7 6 L 1\n";
+    size_t n = say(START WRITE REST PURGE);
+    replays("the example, nothing delivered", n, WORDS, TEXT, undelivered, 0);
+    expect(table[held_at(0)] == 1 && table[mark_at(0)] == 0, "the example, nothing delivered", "held number and mark in the table");
+    n = say(START WRITE REST DELIVER PURGE);
     replays("the example", n, WORDS, TEXT, whole, 0);
     replays("the example, more room", n, WORDS, TEXT + 1000, whole, 0);
     expect(table[COUNT] == 2, "the example", "count in the table");
     expect(table[summary_at(0, 0)] == 8 && table[summary_at(0, 1)] == 8 && table[summary_at(0, 2)] == 0, "the example", "summary in the table");
     expect(table[held_at(0)] == 0 && table[held_at(1)] == 1, "the example", "held numbers in the table");
+    expect(table[mark_at(0)] == 8 && table[mark_at(1)] == 0, "the example", "marks in the table");
     expect(table[record_at(1, 0, 1)] == 5 && table[record_at(1, 0, 3)] == 16, "the example", "record in the table");
     replays("out one byte short", n, WORDS, TEXT - 1, "", 1);
     replays("out of no byte", n, WORDS, 0, "", 1);
@@ -56,7 +62,7 @@ int main(void) {
     replays("a table of no word", n, 0, TEXT, "", 1);
     replays("an empty journal", 0, WORDS, TEXT, "BAD 1 15 0\n", 1);
     replays("no LF", 6, WORDS, TEXT, "BAD 1 14 6\n", 1);
-    replays("no LF after the last line", n - 1, WORDS, TEXT, "BAD 7 14 6\n", 0);
+    replays("no LF after the last line", n - 1, WORDS, TEXT, "BAD 8 14 6\n", 0);
     n = say(WRITE);
     replays("no start", n, WORDS, TEXT, "BAD 1 15 0\n", 1);
     n = say(START WRITE "0002FF\n" WRITE);

@@ -4,7 +4,7 @@
  * No action is worked out here: tests/rust compares what steps do with an independent implementation. */
 #include "lent.h"
 
-typedef char same_words[POLLENCART_TABLE == WORDS && POLLENCART_TEXT == TEXT && POLLENCART_JOURNAL == JOURNAL ? 1 : -1];
+typedef char same_words[POLLENCART_TABLE == WORDS && POLLENCART_LIST == LIST && POLLENCART_TEXT == TEXT && POLLENCART_JOURNAL == JOURNAL ? 1 : -1];
 
 static uint32_t any(void) {
     static uint64_t x = 88172645463325252u;
@@ -14,7 +14,7 @@ static uint32_t any(void) {
     return (uint32_t)(x >> 16);
 }
 
-static unsigned long met[4][7];
+static unsigned long met[4][7], met_delivering[8];
 
 /* A call: its kind, 0 to 3, and its fields. */
 enum { FRESH, WRITE, SESSION, PURGE };
@@ -49,14 +49,37 @@ static void refused(const char *about, struct call c, size_t len, uint32_t numbe
     words_stand(about);
 }
 
+/* A delivery into the first `many` words of a list between guards, on a copy of the table that is due: its answer, how many it delivers, and
+ * that no word of the list but those of the delivered records changes. The answer is the list. */
+static const uint32_t *delivers(const char *about, uint8_t node, size_t len, size_t many, uint32_t number, uint32_t count) {
+    static uint32_t list[GUARD + LIST + 8 + GUARD], list_copy[LENGTH(list)];
+    uint32_t delivered = UNSET;
+    for (size_t i = 0; i < LENGTH(list); i++) list[i] = 0x5A5A5A5Au ^ (uint32_t)(i * 0x01000193u);
+    memcpy(list_copy, list, sizeof list);
+    uint32_t r = pollencart_deliver(lend(), len, node, list + GUARD, many, &delivered);
+    expect(r == number, about, "the number");
+    expect(delivered == count, about, "the count");
+    size_t end = GUARD + RECORD * (size_t)count;
+    expect(memcmp(list, list_copy, GUARD * sizeof *list) == 0, about, "the words before the list");
+    expect(memcmp(list + end, list_copy + end, sizeof list - end * sizeof *list) == 0, about, "the rest of the list and the words after it");
+    met_delivering[r < 8 ? r : 0]++;
+    return list + GUARD;
+}
+
+/* Refused: nothing is delivered, and no word of the table changed. */
+static void undelivered(const char *about, uint8_t node, size_t len, size_t many, uint32_t number) {
+    delivers(about, node, len, many, number, 0);
+    words_stand(about);
+}
+
 /* A table of three among words of any kind: node 0 holds two records, node 1 one, node 2 sixty-four. */
 static void fill(void) {
     static const uint32_t summary[3][3] = {{5, 3, 9}, {2, 7, 9}, {1, 1, 100}}, acks[3][3] = {{1, 2, 3}, {4, 1, 2}, {50, 60, 70}};
-    static const uint32_t held[3] = {2, 1, 64}, records[3][4] = {{0, 4, 40, 16}, {0, 5, 50, 32}, {1, 7, 70, 255}};
+    static const uint32_t marks[3] = {7, 7, 60}, held[3] = {2, 1, 64}, records[3][4] = {{0, 4, 40, 16}, {0, 5, 50, 32}, {1, 7, 70, 255}};
     for (size_t i = 0; i < WORDS; i++) due[i] = any();
     due[COUNT] = 3;
     for (uint32_t p = 0; p < 3; p++) {
-        due[held_at(p)] = held[p];
+        due[held_at(p)] = held[p], due[mark_at(p)] = marks[p];
         for (uint32_t o = 0; o < 3; o++) due[summary_at(p, o)] = summary[p][o], due[acknowledgement_at(p, o)] = acks[p][o];
     }
     for (uint32_t word = 0; word < RECORD; word++) {
@@ -101,18 +124,32 @@ static void writes_and_meets(void) {
     }
 }
 
-/* Node 2's smallest acknowledgement is 50: 37 to 50 leave, 51 to 100 close up, fourteen rows become zero. Node 0's is 1: none
- * leave; so is node 1's, its own. Who lags is told. */
+/* What a purge of node 2 must leave once its first `many` records have left. */
+static void shorter(uint32_t many) {
+    for (uint32_t i = 0; i < ROOM; i++)
+        for (uint32_t word = 0; word < RECORD; word++) due[record_at(2, i, word)] = i + many < ROOM ? due[record_at(2, i + many, word)] : 0;
+    due[held_at(2)] = ROOM - many;
+}
+
+/* Node 2's smallest acknowledgement is 50 and its mark 60: 37 to 50 leave, 51 to 100 close up, fourteen rows become zero. With a mark of 45 only 37 to 45
+ * leave, with one of 36 none. Node 0's smallest acknowledgement is 1: none leave; so is node 1's, its own. Who lags is told, also where the mark keeps
+ * the records. */
 static void purges(void) {
     fill();
     answers("a purge of none", PURGE_OF(0), WORDS, 0, 0, 0);
     words_stand("a purge of none");
     answers("a purge of none, node 1 lags", PURGE_OF(1), WORDS, 0, 0, 1);
     words_stand("a purge of none, node 1 lags");
+    due[mark_at(2)] = 36, set_row(acknowledgement_at(2, 0), 60, 50, 50);
+    answers("a purge before the delivery", PURGE_OF(2), WORDS, 0, 0, 1);
+    words_stand("a purge before the delivery");
+    due[mark_at(2)] = 45;
+    answers("a purge up to the mark", PURGE_OF(2), WORDS, 0, 9, 1);
+    shorter(9);
+    words_stand("a purge up to the mark");
+    fill();
     answers("a purge", PURGE_OF(2), WORDS, 0, 14, 0);
-    for (uint32_t i = 0; i < ROOM; i++)
-        for (uint32_t word = 0; word < RECORD; word++) due[record_at(2, i, word)] = i < 50 ? due[record_at(2, i + 14, word)] : 0;
-    due[held_at(2)] = 50;
+    shorter(14);
     words_stand("a purge");
     set_row(acknowledgement_at(0, 0), 2, 3, 1);
     answers("the last node lags", PURGE_OF(0), WORDS, 0, 0, 2);
@@ -121,6 +158,67 @@ static void purges(void) {
     set_row(acknowledgement_at(0, 0), 1, 1, 1);
     answers("all are equal", PURGE_OF(0), WORDS, 0, 0, 0);
     words_stand("who lags");
+}
+
+/* Records of three origins at node 0, whose mark is 4 and whose smallest summary entry 7: of the blocks 0 to 5 those at 5, 7, 7 and 7 are due. Records of one
+ * timestamp and origin, which no run of steps leads to, come in the order of the log. */
+static void waiting(void) {
+    static const uint32_t records[6][2] = {{2, 7}, {1, 8}, {1, 7}, {0, 4}, {2, 5}, {1, 7}};
+    fill();
+    for (uint32_t i = 0; i < 6; i++) set_record(0, i, records[i][0], records[i][1], i, 0x20 + i);
+    set_row(summary_at(0, 0), 9, 7, 8);
+    due[mark_at(0)] = 4;
+}
+
+static void deliveries(void) {
+    static const uint32_t order[] = {4, 2, 5, 0};
+    for (size_t many = 0; many <= LIST + 8; many++) {
+        waiting();
+        if (many < 16) {
+            undelivered("deliver: a list too short", 0, WORDS, many, 7);
+            continue;
+        }
+        const uint32_t *list = delivers("deliver", 0, WORDS, many, 0, 4);
+        for (uint32_t i = 0; i < 4; i++)
+            for (uint32_t word = 0; word < RECORD; word++) expect(list[RECORD * i + word] == due[record_at(0, order[i], word)], "deliver", "the list");
+        due[mark_at(0)] = 7;
+        words_stand("deliver");
+        delivers("deliver: again", 0, WORDS, many, 0, 0);
+        words_stand("deliver: again");
+    }
+    /* the mark above the smallest entry, and at it: none is due and the mark stays; a list of no word is enough */
+    for (uint32_t mark = 7; mark < 12; mark++) {
+        waiting();
+        due[mark_at(0)] = mark;
+        delivers("deliver: none", 0, WORDS, 0, 0, 0);
+        words_stand("deliver: none");
+    }
+    /* none held between the mark and the smallest entry: the mark rises all the same */
+    waiting();
+    due[held_at(0)] = 2, due[mark_at(0)] = 5, set_row(summary_at(0, 0), 6, 90, 91);
+    delivers("deliver: the mark alone", 0, WORDS, 0, 0, 0);
+    due[mark_at(0)] = 6;
+    words_stand("deliver: the mark alone");
+    /* a full log: 37 to 100, of which 61 to 100 are above the mark; then all of it */
+    waiting();
+    set_row(summary_at(2, 0), UINT32_MAX, 100, 101);
+    undelivered("deliver: a full log, one word short", 2, WORDS, 159, 7);
+    const uint32_t *list = delivers("deliver: a full log", 2, WORDS, LIST, 0, 40);
+    expect(memcmp(list, due + record_at(2, 24, 0), 160 * sizeof *list) == 0, "deliver: a full log", "the list");
+    due[mark_at(2)] = 100;
+    words_stand("deliver: a full log");
+    due[mark_at(2)] = 0;
+    list = delivers("deliver: all of a full log", 2, WORDS, LIST, 0, ROOM);
+    expect(memcmp(list, due + record_at(2, 0, 0), LIST * sizeof *list) == 0, "deliver: all of a full log", "the list");
+    due[mark_at(2)] = 100;
+    words_stand("deliver: all of a full log");
+    /* which comes first */
+    waiting();
+    undelivered("deliver: node 3", 3, WORDS, LIST, 3);
+    undelivered("deliver: node 255, and no list", 255, WORDS, 0, 3);
+    due[held_at(1)] = 65;
+    undelivered("deliver: not sound, and no list", 0, WORDS, 0, 1);
+    undelivered("deliver: not sound, and node 3", 3, WORDS, LIST, 1);
 }
 
 /* Each number on the table of three, and which of two comes first. */
@@ -173,6 +271,7 @@ static void look(size_t len, uint32_t n) {
         uint32_t p = i < 17 ? i : beyond[i - 17];
         uint32_t held = p < n ? due[held_at(p)] : 0, s = UNSET, t = UNSET;
         expect(pollencart_held(w, len, (uint8_t)p) == held, "held", "the number");
+        expect(pollencart_mark(w, len, (uint8_t)p) == (p < n ? due[mark_at(p)] : 0), "mark", "the number");
         uint32_t number = pollencart_count_node(w, len, (uint8_t)p, &s, &t);
         expect(number == (p < n ? 0 : n ? 3 : 1) && t <= s && s <= held, "count_node", "the number");
         for (uint32_t j = 0; j < 21; j++) {
@@ -199,6 +298,8 @@ static void unsound(const char *about, size_t len) {
     refused(about, SESSION_OF(0, 0, 0, 0, 4), len, 1);
     refused(about, PURGE_OF(1), len, 1);
     refused(about, PURGE_OF(255), len, 1);
+    undelivered(about, 1, len, LIST, 1);
+    undelivered(about, 255, len, 0, 1);
 }
 
 /* One word of a sound table is another value. */
@@ -212,7 +313,7 @@ static void spoiled(const char *about, size_t at, uint32_t value) {
 /* Tables that are not sound, one thing wrong at a time; and what lies beyond the nodes or beyond the held rows is nothing to them. */
 static void soundness(void) {
     static const uint32_t counts[] = {0, 1, 17, 256, 0x80000000u, UINT32_MAX}, helds[] = {65, 256, 0x40000000u, UINT32_MAX};
-    static const size_t lengths[] = {0, 1, WORDS - 1, WORDS + 1, WORDS + GUARD};
+    static const size_t lengths[] = {0, 1, MARK, WORDS - 1, WORDS + 1, WORDS + GUARD};
     fill();
     look(WORDS, 3);
     for (size_t i = 0; i < LENGTH(counts); i++) spoiled("the count", COUNT, counts[i]);
@@ -228,23 +329,28 @@ static void soundness(void) {
         refused("fresh: the length", FRESH_OF(2), lengths[i], 1);
         look(lengths[i], 0);
     }
+    due[mark_at(0)] = UINT32_MAX, due[mark_at(3)] = UINT32_MAX; /* of marks nothing is asked */
     due[held_at(3)] = 65, due[record_at(3, 0, 0)] = 99, due[record_at(0, 2, 0)] = 99, due[record_at(1, 1, 3)] = 256;
     look(WORDS, 3);
     due[held_at(2)] = 65;
     look(WORDS, 0);
 }
 
-/* The example of the frames and journals: its seven lines, and what they leave. */
+/* The example of the frames and journals: its lines, a delivery before the last, and what they leave. */
 static void example(void) {
     static const uint32_t entries[] = {8, 8, 7, 6};
     static uint32_t t[WORDS];
-    uint32_t x = UNSET, y = UNSET;
+    uint32_t x = UNSET, y = UNSET, list[RECORD];
     memset(t, 0x55, sizeof t);
     expect(pollencart_fresh(t, WORDS, 2) == 0 && pollencart_write(t, WORDS, 0, 5, 16, 16) == 0, "example", "begins");
     expect(pollencart_session(t, WORDS, 0, 1, 6, 4, 3, &x, &y) == 0 && x == 0 && y == 1, "example", "the first session");
     expect(pollencart_session(t, WORDS, 0, 1, 7, 7, 1, &x, &y) == 0 && x == 0 && y == 0, "example", "the second, which b does not finish");
     expect(pollencart_purge(t, WORDS, 0, &x, &y) == 0 && x == 0 && y == 0, "example", "a purge of none");
     expect(pollencart_session(t, WORDS, 0, 1, 8, 8, 3, &x, &y) == 0 && x == 0 && y == 0, "example", "the third session");
+    expect(pollencart_purge(t, WORDS, 0, &x, &y) == 0 && x == 0 && y == 1, "example", "a purge before the delivery");
+    expect(pollencart_deliver(t, WORDS, 0, list, RECORD, &x) == 0 && x == 1, "example", "the delivery");
+    expect(list[0] == 0 && list[1] == 5 && list[2] == 16 && list[3] == 16, "example", "the delivered record");
+    expect(pollencart_mark(t, WORDS, 0) == 8 && pollencart_mark(t, WORDS, 1) == 0, "example", "the marks");
     expect(pollencart_purge(t, WORDS, 0, &x, &y) == 0 && x == 1 && y == 1, "example", "a purge of one");
     for (uint8_t p = 0; p < 2; p++) {
         for (uint8_t o = 0; o < 2; o++) {
@@ -257,14 +363,16 @@ static void example(void) {
 }
 
 int main(void) {
-    static const int possible[4][7] = {{1, 1}, {1, 1, 0, 1, 0, 1, 1}, {1, 1, 1, 1, 1, 1, 1}, {1, 1, 0, 1}};
+    static const int possible[4][7] = {{1, 1}, {1, 1, 0, 1, 0, 1, 1}, {1, 1, 1, 1, 1, 1, 1}, {1, 1, 0, 1}}, delivering[8] = {1, 1, 0, 1, 0, 0, 0, 1};
     example();
     writes_and_meets();
     purges();
+    deliveries();
     refusals();
     freshes();
     soundness();
     for (int f = 0; f < 4; f++)
         for (int k = 0; k < 7; k++) expect(!!met[f][k] == possible[f][k], "refusals", "each that a call can give was met, and no other");
+    for (int k = 0; k < 8; k++) expect(!!met_delivering[k] == delivering[k], "refusals", "each that a delivery can give was met, and no other");
     return told("tables");
 }

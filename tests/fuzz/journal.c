@@ -9,7 +9,7 @@ static uint32_t table[POLLENCART_TABLE];
 /* Makes a journal of frames: each 12 bytes of data are a kind's fields; a rare one is left damaged. */
 static size_t frames(const uint8_t *data, size_t size)
 {
-    static const uint8_t fields[4] = { 1, 10, 11, 1 };
+    static const uint8_t fields[6] = { 1, 10, 11, 1, 0, 1 };
     static const char digits[] = "0123456789ABCDEF";
     size_t many = 0;
     for (size_t at = 0; at < size && many < 66000; at += 12) {
@@ -21,6 +21,8 @@ static size_t frames(const uint8_t *data, size_t size)
             bytes[0] = at ? 1 : 0, bytes[1] = at ? bytes[1] : (uint8_t)(2 + bytes[1] % 15);
         if (damage < 60)
             bytes[1] &= 15, bytes[2] = bytes[0] == 2 ? bytes[2] & 15 : bytes[2], bytes[11] &= 3;
+        if (bytes[0] == 3 && bytes[2] & 1) /* half of the purges are deliveries */
+            bytes[0] = 5;
         uint32_t length = 1u + fields[bytes[0]];
         for (uint32_t i = 0; i < length; i++)
             sum = (uint8_t)(sum + bytes[i]);

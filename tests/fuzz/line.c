@@ -29,6 +29,8 @@ static void write_back(const uint8_t *line, size_t size, int low)
         answer = pollencart_frame_write(out, size + 1, (uint8_t)f[0], f[1], f[2], (uint8_t)f[3], &length);
     else if (kind == 2)
         answer = pollencart_frame_session(out, size + 1, (uint8_t)f[0], (uint8_t)f[1], f[2], f[3], (uint8_t)f[4], &length);
+    else if (kind == 5)
+        answer = pollencart_frame_deliver(out, size + 1, (uint8_t)f[0], &length);
     else
         answer = pollencart_frame_purge(out, size + 1, (uint8_t)f[0], &length);
     same(answer == 0 && length == size + 1 && !memcmp(out, line, size) && out[size] == '\n', "a frame written back");

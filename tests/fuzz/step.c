@@ -1,9 +1,9 @@
-/* Write, session and purge, by their fields and as lines, the count and the looks, on an arbitrary table: one of any length whose
+/* Write, session, purge and delivery, by their fields and as lines, the count and the looks, on an arbitrary table: one of any length whose
  * words come from the data, then steps; the same replies, counts and words as the plain version. */
 #include "fuzz.h"
 
-static struct part table_part, text_part;
-static uint32_t plain[8192];
+static struct part table_part, text_part, list_part;
+static uint32_t plain[8192], listed[300];
 static uint8_t made[512];
 
 /* The data, read as numbers from its front; zero when it is used up. */
@@ -49,9 +49,9 @@ static size_t fill(void)
 /* A line of the data with its LF: a step's, rarely a start's or a damaged one. */
 static size_t put_line(uint8_t *out)
 {
-    static const uint8_t fields[4] = { 1, 10, 11, 1 };
+    static const uint8_t fields[6] = { 1, 10, 11, 1, 0, 1 }, steps[4] = { 1, 2, 3, 5 };
     uint32_t how = number(1);
-    uint8_t line[13] = { (uint8_t)(how % 32 == 0 ? 0 : 1 + how % 3) }, sum = 0;
+    uint8_t line[13] = { (uint8_t)(how % 32 == 0 ? 0 : steps[how % 4]) }, sum = 0;
     size_t many = 1u + fields[line[0]], at = 0;
     for (size_t i = 1; i < many; i++)
         line[i] = (uint8_t)(i < 3 || i + 1 == many ? number(1) : i % 4 ? 0 : number(1));
@@ -91,6 +91,19 @@ static void text(uint32_t *table, size_t length, uint32_t op)
     same(!memcmp(at, made, size), "the lines' bytes");
 }
 
+/* A delivery on both tables, into lists of any length: most often one that is long enough. */
+static void deliver(uint32_t *table, size_t length, uint8_t node)
+{
+    uint32_t how = number(1), w[2] = { 7, 7 };
+    size_t many = how % 4 ? POLLENCART_LIST : number(1) % (sizeof listed / sizeof *listed);
+    uint32_t *list = (uint32_t *)(void *)lend(&list_part, sizeof listed, 4 * many, (int)(how & 4));
+    for (size_t i = 0; i < many; i++)
+        listed[i] = list[i] = 0xA5A5A5A5u ^ (uint32_t)i;
+    same(pollencart_deliver(table, length, node, list, many, w) == plain_deliver(plain, length, node, listed, many, w + 1), "deliver");
+    same(w[0] == w[1], "the delivered count");
+    same(!memcmp(list, listed, 4 * many), "the list's words");
+}
+
 /* One call on both tables. */
 static void call(uint32_t *table, size_t length)
 {
@@ -107,6 +120,8 @@ static void call(uint32_t *table, size_t length)
         uint8_t outcome = (uint8_t)(op & 32 ? op % 8 : 3 - number(1) % 4);
         same(pollencart_session(table, length, p, q, x, y, outcome, w, w + 1) == plain_session(plain, length, p, q, x, y, outcome, w + 2, w + 3), "session");
         same(w[0] == w[2] && w[1] == w[3], "the carried counts");
+    } else if (op % 8 == 5 && op & 32) {
+        deliver(table, length, p);
     } else if (op % 8 == 5) {
         same(pollencart_purge(table, length, p, w, w + 1) == plain_purge(plain, length, p, w + 2, w + 3), "purge");
         same(w[0] == w[2] && w[1] == w[3], "the removed count, and the node that lags");
@@ -117,6 +132,7 @@ static void call(uint32_t *table, size_t length)
         same(pollencart_summary(table, length, p, q) == plain_summary(plain, length, p, q), "summary");
         same(pollencart_acknowledgement(table, length, p, q) == plain_acknowledgement(plain, length, p, q), "acknowledgement");
         same(pollencart_held(table, length, p) == plain_held(plain, length, p), "held");
+        same(pollencart_mark(table, length, p) == plain_mark(plain, length, p), "mark");
         same(pollencart_record(table, length, p, x, y % 6) == plain_record(plain, length, p, x, y % 6), "record");
         if (op & 32 && x == 0)
             same(pollencart_fresh(table, length, y) == plain_fresh(plain, length, y), "fresh");

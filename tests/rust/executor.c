@@ -14,7 +14,7 @@ long write(int, const void *, size_t);
 void abort(void);
 
 enum { PAGE = 65536, READ_WRITE = 3, PRIVATE = 2, SHARED = 1, ANONYMOUS = 32, OPEN_READ_WRITE = 2 };
-enum { END, TABLE, FRESH, WRITE, SESSION, PURGE, LINE, FRAME, REPLAY, COUNT, COUNT_NODE, LOOK, POKE, APPLY_LINE, APPLY_LINES };
+enum { END, TABLE, FRESH, WRITE, SESSION, PURGE, LINE, FRAME, REPLAY, COUNT, COUNT_NODE, LOOK, POKE, APPLY_LINE, APPLY_LINES, DELIVER };
 
 /* A part that callers lend: `size` bytes that end at the guard. */
 struct lent { uint8_t *guard; };
@@ -102,8 +102,10 @@ static uint32_t *frame(const uint32_t *c, uint32_t *out)
         answer = pollencart_frame_write(at, size, (uint8_t)c[2], c[3], c[4], (uint8_t)c[5], &reported);
     else if (c[1] == 2)
         answer = pollencart_frame_session(at, size, (uint8_t)c[2], (uint8_t)c[3], c[4], c[5], (uint8_t)c[6], &reported);
-    else
+    else if (c[1] == 3)
         answer = pollencart_frame_purge(at, size, (uint8_t)c[2], &reported);
+    else
+        answer = pollencart_frame_deliver(at, size, (uint8_t)c[2], &reported);
     *out++ = answer;
     *out++ = reported;
     return put(out, at, size);
@@ -141,6 +143,17 @@ static uint32_t *step(uint32_t op, const uint32_t *c, uint32_t *out)
     return put(out, table, 4 * (size_t)length);
 }
 
+/* A delivery into a list of these words; then the list's words and the table's. */
+static uint32_t *deliver(uint32_t node, uint32_t many, const uint32_t *words, uint32_t *out)
+{
+    uint32_t *list = (uint32_t *)(void *)lend(&the_list, words, 4 * (size_t)many), delivered = 0xFFFFFFFF;
+    *out++ = pollencart_deliver(table, length, (uint8_t)node, list, many, &delivered);
+    *out++ = delivered;
+    *out++ = 0xFFFFFFFF;
+    out = put(out, list, 4 * (size_t)many);
+    return put(out, table, 4 * (size_t)length);
+}
+
 /* One line on the table, or many: the number, what is stored, the table's words, and whether the bytes stayed. */
 static uint32_t *apply(uint32_t op, const uint32_t *bytes, uint32_t size, uint32_t *out)
 {
@@ -164,6 +177,7 @@ static uint32_t *look(const uint32_t *c, uint32_t *out)
     *out++ = pollencart_summary(table, length, (uint8_t)c[0], (uint8_t)c[1]);
     *out++ = pollencart_acknowledgement(table, length, (uint8_t)c[0], (uint8_t)c[1]);
     *out++ = pollencart_held(table, length, (uint8_t)c[0]);
+    *out++ = pollencart_mark(table, length, (uint8_t)c[0]);
     *out++ = pollencart_record(table, length, (uint8_t)c[0], c[2], c[3]);
     return put(out, table, 4 * (size_t)length);
 }
@@ -187,6 +201,7 @@ static size_t execute(const uint32_t *c, uint32_t *answers)
         case WRITE: out = step(op, c, out), c += 4; break;
         case SESSION: out = step(op, c, out), c += 5; break;
         case PURGE: out = step(op, c, out), c += 1; break;
+        case DELIVER: out = deliver(c[0], c[1], c + 2, out), c += 2 + c[1]; break;
         case LINE: out = line(c + 1, c[0], out), c += 1 + (c[0] + 3) / 4; break;
         case FRAME: out = frame(c, out), c += 7; break;
         case REPLAY: out = replay(c, out), c += 3 + (c[0] + 3) / 4; break;

@@ -1,6 +1,7 @@
 /* The stores of each step into its table, counted (watch.h). Of a purge: none before the first record that leaves, each later row of a record that stays
  * once, one after the other, each freed row once, the held number once; none at all where nothing leaves. The same count has to find planted purges that
- * leave the right words by too many stores. Of the other steps: the words stored beside the words that change. */
+ * leave the right words by too many stores. Of a delivery: the mark once where it rises, and nothing else. Of the other steps: the words stored beside
+ * the words that change. */
 #define _GNU_SOURCE
 #include "watch.h"
 
@@ -79,6 +80,7 @@ static void fill(unsigned kind, uint32_t held, int alike) {
         }
     }
     table[acknowledgement_at(NODE, 0)] = LIMIT;
+    table[mark_at(NODE)] = LIMIT; /* as a delivery left it */
     for (uint32_t r = held; r < ROOM; r++)
         for (uint32_t w = 0; w < 4; w++) table[record_at(NODE, r, w)] = 0xABCD0000u + r; /* past the held rows anything may stand */
 }
@@ -141,6 +143,34 @@ static unsigned all_purges(purge_call *purge, const char *told_of, unsigned *run
     return broken;
 }
 
+/* A delivery, of node NODE's records up to LIMIT from a mark of so much: how many words of the table it stores to that it should not, or not once. */
+static unsigned delivered(unsigned kind, uint32_t held, uint32_t mark, size_t room, uint32_t number) {
+    static uint32_t before[WORDS], list[LIST];
+    uint32_t many = UNSET;
+    fill(kind, held, 0);
+    table[mark_at(NODE)] = mark, table[summary_at(NODE, 0)] = LIMIT;
+    memcpy(before, table, sizeof before);
+    watch_begin();
+    uint32_t answer = pollencart_deliver(table, WORDS, NODE, list, room, &many);
+    watch_end();
+    unsigned broken = answer != number, rises = number == 0 && mark < LIMIT;
+    if (rises) before[mark_at(NODE)] = LIMIT;
+    broken += memcmp(before, table, sizeof before) != 0;
+    for (size_t i = 0; i < REGION; i++) {
+        size_t at = EDGE + 4 * mark_at(NODE);
+        broken += times[i] != (rises && i >= at && i < at + 4);
+    }
+    return broken;
+}
+
+static void all_deliveries(void) {
+    static const uint32_t held[] = {0, 1, 63, 64}, marks[] = {0, LIMIT - 1, LIMIT, LIMIT + 1};
+    for (size_t h = 0; h < LENGTH(held); h++)
+        for (unsigned kind = 0; kind < LENGTH(kinds); kind++)
+            for (size_t m = 0; m < LENGTH(marks); m++) expect(delivered(kind, held[h], marks[m], LIST, 0) == 0, "a delivery", "the mark where it rises, once, and nothing else");
+    expect(delivered(5, 64, 0, LIST - 1, 7) == 0, "a delivery refused with 7", "nothing");
+}
+
 /* The other steps: words stored, those stored more than once, words that change, and stores. */
 static void beside(const char *what, uint32_t (*step)(void)) {
     static uint32_t before[WORDS];
@@ -165,6 +195,10 @@ static uint32_t session_1(void) { return pollencart_session(table, WORDS, 0, 1, 
 static uint32_t session_2(void) { return pollencart_session(table, WORDS, 0, 1, 9000, 9001, 2, counts, counts + 1); }
 static uint32_t session_3(void) { return pollencart_session(table, WORDS, 0, 1, 9000, 9001, 3, counts, counts + 1); }
 static uint32_t purge_step(void) { return pollencart_purge(table, WORDS, 0, counts, counts + 1); }
+static uint32_t deliver_step(void) {
+    static uint32_t list[LIST];
+    return pollencart_deliver(table, WORDS, 0, list, LIST, counts);
+}
 static uint32_t refused_step(void) { return pollencart_write(table, WORDS, 0, 1, 7, 0x20) == 5 ? 0 : 1; }
 
 /* Two of n nodes with eight records each, half of them new to the other; every other record of node 0 is acknowledged by all. */
@@ -173,7 +207,7 @@ static void meeting(uint32_t n) {
     table[COUNT] = n;
     for (uint32_t p = 0; p < n; p++) {
         for (uint32_t q = 0; q < n; q++) table[summary_at(p, q)] = p < 2 && q == p ? 108 : 104, table[acknowledgement_at(p, q)] = 50 + (p + q) % 2;
-        table[held_at(p)] = 8;
+        table[held_at(p)] = 8, table[mark_at(p)] = 40; /* what is acknowledged was delivered */
         for (uint32_t r = 0; r < 8; r++) {
             table[record_at(p, r, 0)] = p % n, table[record_at(p, r, 1)] = p == 0 && r % 2 == 1 && r < 4 ? 40 : 101 + r;
             table[record_at(p, r, 2)] = r, table[record_at(p, r, 3)] = 0x20;
@@ -186,6 +220,7 @@ int main(void) {
     unsigned runs = 0, total = 0, none = 0, ignored = 0;
     unsigned broken = all_purges(pollencart_purge, "the library", &runs, &total);
     expect(broken == 0, "purges", "within their bounds");
+    all_deliveries();
 #ifdef OWN_MEMSET
     expect(all_purges(sparing, "a sparing purge in C", &ignored, &none) == 0, "the count", "lets a sparing purge pass");
     expect(all_purges(one_early, NULL, &ignored, &none) > 0, "planted", "a row stored before the first that leaves");
@@ -202,11 +237,12 @@ int main(void) {
         meeting(n[i]), beside("a session, only b finishes", session_2);
         meeting(n[i]), beside("a session, both finish", session_3);
         meeting(n[i]), beside("a purge of two of eight", purge_step), beside("a purge of none", purge_step);
+        meeting(n[i]), beside("a delivery of some", deliver_step), beside("a delivery of none", deliver_step);
     }
     printf("writes: %u purges by %u stores within their bounds, 4 planted faults found, %lu checks, %lu failed\n", runs, total, checks, failures);
 #else
     (void)none, (void)ignored, (void)sparing, (void)one_early, (void)rows_twice, (void)held_anew, (void)cleared_twice, (void)beside, (void)meeting;
-    (void)write_step, (void)session_0, (void)session_1, (void)session_2, (void)session_3, (void)purge_step, (void)refused_step, (void)least, (void)most;
+    (void)deliver_step, (void)write_step, (void)session_0, (void)session_1, (void)session_2, (void)session_3, (void)purge_step, (void)refused_step, (void)least, (void)most;
     printf("writes: with the C library's memset: %u purges by %u stores, %lu of %lu freed bytes stored more than once by it, %lu failed\n", runs, total, freed_again, freed, failures);
 #endif
     return failures != 0;

@@ -4,7 +4,7 @@ use mathlib.Core.List.{List, [], _∷_, _++_}
 use Prim.Native.Nat.{ℕ, _≤_}
 use lib.ListN.{getD, take}
 use Rattle.meaning.specs.declared.Reply.{Reply}
-use Rattle.meaning.specs.declared.Reply.the-variants.{Written, Carried, Purged, Refused}
+use Rattle.meaning.specs.declared.Reply.the-variants.{Written, Carried, Purged, Delivered, Refused}
 use Rattle.meaning.specs.declared.Answer.{Answer}
 use Rattle.meaning.specs.declared.Framed.{Framed}
 use Rattle.meaning.specs.declared.Framed.the-variants.{Length}
@@ -25,6 +25,7 @@ pub each : (x : Reply) → (getD (replyValues x) 0 0 ∷ getD (replyValues x) 1 
 each Written = refl
 each (Carried a b) = refl
 each (Purged k q) = refl
+each (Delivered k) = refl
 each (Refused k) = refl
 
 -- the values of a reply that is another, and the first k of them

@@ -4,14 +4,20 @@ use mathlib.Core.List.{List, [], _∷_}
 use Prim.Native.Nat.{ℕ}
 use lib.ListN.{length, take}
 use Rattle.meaning.specs.declared.Action.{Action}
+use Rattle.meaning.specs.declared.Action.the-variants.{Deliver}
 use Rattle.meaning.specs.declared.Fault.{Fault}
-use Rattle.meaning.specs.Steps.{reply, after, replyValues}
+use Rattle.meaning.specs.Steps.{reply, after, replyValues, lentReply, lentAfter, listAfter}
 use Rattle.meaning.specs.Lines.{lineReply, lineAfter, answerValues, linesReply, linesAfter, progressValues}
 use Rattle.meaning.specs.Frames.{wordsFault, wordsAfter, framedValues, frameReply, frameAfter, startReply, startAfter}
 
 -- of a step: the number, then the counts; and the table at exit
 abbrev pub Stepped : List ℕ → Action → List ℕ → List ℕ → Type 0
 Stepped t x told u = (told ≡ take (length told) (replyValues (reply t x))) × (u ≡ after t x)
+
+-- of a delivery into a lent list: the number and the count; and the table and the list at exit
+abbrev pub DeliveryTold : List ℕ → List ℕ → ℕ → List ℕ → List ℕ → List ℕ → Type 0
+DeliveryTold t list p told u out =
+    (told ≡ take (length told) (replyValues (lentReply t (length list) (Deliver p)))) × (u ≡ lentAfter t (length list) (Deliver p)) × (out ≡ listAfter t list p)
 
 -- of a line: the number, the counts and the place in the line; and the table at exit
 abbrev pub LineTold : List ℕ → List ℕ → List ℕ → List ℕ → Type 0

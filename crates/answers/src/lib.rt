@@ -20,11 +20,12 @@ pub fn number_of(answer: Reply) -> u32
         Reply::Written => 0,
         Reply::Carried { .. } => 0,
         Reply::Purged { .. } => 0,
+        Reply::Delivered { .. } => 0,
         Reply::Refused { number } => number,
     }
 }
 
-// A reply's first count: what a session carried to a, or what a purge removed.
+// A reply's first count: what a session carried to a, what a purge removed, or what a delivery gave.
 pub fn first_of(answer: Reply) -> u32
     ensures { λ r. ⌜ r ≡ getD (replyValues answer) 1 0 ⌝ }
 {
@@ -32,6 +33,7 @@ pub fn first_of(answer: Reply) -> u32
         Reply::Written => 0,
         Reply::Carried { a, .. } => a,
         Reply::Purged { removed, .. } => removed,
+        Reply::Delivered { records } => records,
         Reply::Refused { .. } => 0,
     }
 }
@@ -44,6 +46,7 @@ pub fn second_of(answer: Reply) -> u32
         Reply::Written => 0,
         Reply::Carried { b, .. } => b,
         Reply::Purged { lags, .. } => lags as u32,
+        Reply::Delivered { .. } => 0,
         Reply::Refused { number: _ } => 0,
     }
 }

@@ -28,8 +28,8 @@ use Rattle.meaning.specs.Frames.{
 }
 use Rattle.meaning.proofs.FrameLaws.{Good, good, clear, read-refused, read-begin, read-act}
 use Rattle.numbers.specs.Numbers.{fieldAt}
-use Rattle.heads.specs.Heads.{shortOf, Whole, writeAt, sessionAt, purgeAt}
-use Rattle.heads.proofs.FieldLaws.{rest-purge, fieldsFrom, line-fields, action-write, action-session, action-purge}
+use Rattle.heads.specs.Heads.{noLine, shortOf, Whole, writeAt, sessionAt, purgeAt, deliverAt}
+use Rattle.heads.proofs.FieldLaws.{rest-purge, fieldsFrom, line-fields, action-write, action-session, action-purge, action-deliver}
 use Rattle.heads.proofs.QuickLaws.{kind-24, kind-26, field-small, short-tells, held-six, held-not}
 
 -- past the fields
@@ -90,12 +90,13 @@ module _ (l : List ℕ) where
 
       -- the field of a kind that has only one
       pub short-value : (i r : ℕ) → (kind ≡ 1 → ⊥) → (kind ≡ 2 → ⊥) → r ≡ getD (fieldsOf (purgeAt l)) i 0 → r ≡ getD (lineValues (readLine 0 l)) (3 + i) 0
-      short-value i r p q e = go (eqb kind 0) refl
+      short-value i r p q e = go (eqb kind 0) (eqb kind 5) refl refl
         where
-          go : (b : Bool) → eqb kind 0 ≡ b → r ≡ getD (lineValues (readLine 0 l)) (3 + i) 0
-          go true z = start-field (eqb-true kind 0 z) i r e
-          go false z =
-              let three : kind ≡ 3 = rest-purge kind (line-whole .has-kind) (eqb-false kind 0 z) p q in
+          go : (b d : Bool) → eqb kind 0 ≡ b → eqb kind 5 ≡ d → r ≡ getD (lineValues (readLine 0 l)) (3 + i) 0
+          go true d z w = start-field (eqb-true kind 0 z) i r e
+          go false true z w = step-field (eqb-false kind 0 z) (deliverAt l) i r (action-deliver l kind is (eqb-true kind 5 w)) e
+          go false false z w =
+              let three : kind ≡ 3 = rest-purge kind (line-whole .has-kind) (eqb-false kind 0 z) p q (eqb-false kind 5 w) in
               step-field (eqb-false kind 0 z) (purgeAt l) i r (action-purge l kind is three) e
 
       pub write-value : (i r : ℕ) → kind ≡ 1 → r ≡ getD (fieldsOf (writeAt l)) i 0 → r ≡ getD (lineValues (readLine 0 l)) (3 + i) 0
@@ -113,7 +114,7 @@ module _ (l : List ℕ) (z : lineRefusal l ≡ 0) where
   field-session i r long e = session-value l z 2 (kind-26 l (good l z) long) i r refl e
 
 -- the field of a line shorter than a write's, by what it holds
-module _ (l : List ℕ) (x : ℕ) (e : x ≡ shortOf l) (few : length l < 24) (h : x < 1024) where
+module _ (l : List ℕ) (x : ℕ) (e : x ≡ shortOf l) (few : length l < 24) (h : x < noLine) where
   tells : Good l × (x ≡ 256 * lineKind (bytesOf l) + fieldAt l 1 1)
   tells = short-tells l x e h
 

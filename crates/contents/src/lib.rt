@@ -4,7 +4,7 @@ ghost use mathlib.Core.Bool.{true};
 ghost use Prim.Native.Nat.{_+_, _<_};
 ghost use lib.ListN.{length, getD};
 ghost use Rattle.meaning.specs.Frames.{bytesOf, allDigits, lineFields, actionOf, fieldsOf, lineValues, readLine};
-ghost use Rattle.heads.specs.Heads.{Whole, writeAt, sessionAt, purgeAt};
+ghost use Rattle.heads.specs.Heads.{Whole, writeAt, sessionAt, purgeAt, deliverAt};
 use meaning::Action;
 use numbers::byte;
 use numbers::word;
@@ -44,6 +44,14 @@ fn purge_at(s: &[u8]) -> Action
     Action::Purge { node: byte(s, 1) }
 }
 
+// The delivery that a line of 6 digits holds.
+fn deliver_at(s: &[u8]) -> Action
+    requires { ⌜ (allDigits (now s) ≡ true) × (length (now s) ≡ 6) ⌝ }
+    ensures { λ r. ⌜ r ≡ deliverAt (now (s .entry)) ⌝ }
+{
+    Action::Deliver { node: byte(s, 1) }
+}
+
 // The action of a line, by its kind.
 pub fn action(s: &[u8], kind: u8) -> Action
     requires { ⌜ Whole (now s) kind × (0 < kind) ⌝ }
@@ -52,6 +60,7 @@ pub fn action(s: &[u8], kind: u8) -> Action
     match kind {
         1 => write_at(s),
         2 => session_at(s),
+        5 => deliver_at(s),
         _ => purge_at(s),
     }
 }

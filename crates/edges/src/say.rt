@@ -80,6 +80,7 @@ pub(crate) fn reply(t: &[u32], name: &[u8], r: Reply, before: u64) {
         Reply::Written => line(t, name, 0, 0, 0),
         Reply::Carried { a, b } => line(t, name, 0, a, b),
         Reply::Purged { removed, lags } => line(t, name, 0, removed, lags as u32),
+        Reply::Delivered { records } => line(t, name, 0, records, 0),
         Reply::Refused { number } => {
             line(t, name, number, 0, 0);
             unchanged(before, digest(t));

@@ -9,11 +9,11 @@ use lib.ListN.{length, getD, List·getD-eq-default}
 use lib.Dec.{ltb}
 use Rattle.meaning.specs.declared.Record.{Record}
 use Rattle.meaning.specs.Rows.{recordAt, words}
-use Rattle.meaning.specs.Table.{nodesMost, logMost, summaryAt, acksAt, logAt, part, count, held, node, sound, Sound}
+use Rattle.meaning.specs.Table.{nodesMost, logMost, summaryAt, acksAt, logAt, markAt, part, count, held, mark, node, sound, Sound}
 use Rattle.meaning.proofs.PlaceLaws.{getD-part, length-part}
 use Rattle.meaning.proofs.RowLaws.{and-left, and-right, getD-records}
 use Rattle.meaning.proofs.TableLaws.{sound-facts, held-log}
-use Rattle.entries.specs.Entries.{present, summaryEntry, ackEntry, heldNumber, nothing, recordWord}
+use Rattle.entries.specs.Entries.{present, summaryEntry, ackEntry, heldNumber, nothing, recordWord, markEntry}
 
 -- an entry of a row of n, by the test of the place
 pub entry-in : (t : List ℕ) (at n o : ℕ) → o < n → getD t (at + o) 0 ≡ getD (part at n t) o 0
@@ -98,6 +98,14 @@ module _ (t : List ℕ) (p : ℕ) where
   pub held-is : (r : ℕ) → present t p ≡ true → r ≡ held t p → r ≡ heldNumber t p
   unfolding heldNumber
   held-is r h q = rw h (q ∙ held-log t p)
+
+  pub no-mark : present t p ≡ false → 0 ≡ markEntry t p
+  unfolding markEntry
+  no-mark h = rw h
+
+  pub mark-is : (at : ℕ) → present t p ≡ true → at ≡ markAt p → getD t at 0 ≡ markEntry t p
+  unfolding markEntry node mark
+  mark-is at h e = rw h (ap (λ (i : ℕ). getD t i 0) e)
 
   module _ (i k : ℕ) where
     pub no-record : present t p ≡ false → 0 ≡ recordWord t p i k

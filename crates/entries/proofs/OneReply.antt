@@ -9,6 +9,8 @@ use Rattle.entries.proofs.held_number.Kinds as held-kinds
 use Rattle.entries.proofs.held_number.Reads as held
 use Rattle.entries.proofs.record_word.Kinds as word-kinds
 use Rattle.entries.proofs.record_word.Reads as word
+use Rattle.entries.proofs.mark_of.Kinds as mark-kinds
+use Rattle.entries.proofs.mark_of.Reads as mark
 
 pub one-summary-entry : OneResult 1 summary-kinds.ps summary-kinds.r summary.Post
 one-summary-entry κs a x y s s' p q = p ∙ sym q
@@ -21,3 +23,6 @@ one-held-number κs a x y s s' p q = p ∙ sym q
 
 pub one-record-word : OneResult 1 word-kinds.ps word-kinds.r word.Post
 one-record-word κs a x y s s' p q = p ∙ sym q
+
+pub one-mark-entry : OneResult 1 mark-kinds.ps mark-kinds.r mark.Post
+one-mark-entry κs a x y s s' p q = p ∙ sym q

@@ -1,4 +1,4 @@
--- What C is told of a table that it looks into: an entry of a node's rows, its held number, a word of a record, and 0 where there is none.
+-- What C is told of a table that it looks into: an entry of a node's rows, its held number, a word of a record, its mark, and 0 where there is none.
 use mathlib.Core.Bool.{Bool, _&&_, cond}
 use mathlib.Core.List.{List, [], _∷_}
 use Prim.Native.Nat.{ℕ}
@@ -31,3 +31,7 @@ nothing = record { origin = 0; timestamp = 0; block = 0; verdict = 0 }
 -- "origin, timestamp, block, verdict": word k, from 0, of the record at place i of p's log, oldest first
 unfoldable pub recordWord : List ℕ → ℕ → ℕ → ℕ → ℕ
 recordWord t p i k = cond (present t p) (getD (words (getD (node t p .log) i nothing ∷ [])) k 0) 0
+
+-- "each node has a mark, at first 0"
+unfoldable pub markEntry : List ℕ → ℕ → ℕ
+markEntry t p = cond (present t p) (node t p .mark) 0

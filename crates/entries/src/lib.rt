@@ -3,7 +3,7 @@ ghost use mathlib.Core.Path.{_≡_};
 ghost use Prim.Native.Nat.{_+_, _≤_};
 ghost use lib.ListN.{getD};
 ghost use Rattle.meaning.specs.Table.{tableWords, nodesMost, part, count, Sound};
-ghost use Rattle.entries.specs.Entries.{present, summaryEntry, ackEntry, heldNumber, recordWord};
+ghost use Rattle.entries.specs.Entries.{present, summaryEntry, ackEntry, heldNumber, recordWord, markEntry};
 use layout::RECORD_WORDS;
 
 // Whether the table is sound and has this node: the one scan of a call.
@@ -76,4 +76,15 @@ pub fn record_word(table: &[u32], node: u8, index: u32, word: u32) -> u32
         return 0;
     }
     table[layout::log_at(p) + RECORD_WORDS * index as usize + word as usize]
+}
+
+// A node's mark: it has delivered every record of a timestamp up to this.
+pub fn mark_of(table: &[u32], node: u8) -> u32
+    ensures { λ r. ⌜ r ≡ markEntry (now (table .entry)) node ⌝ }
+{
+    let p = node as usize;
+    if !is_present(table, p) {
+        return 0;
+    }
+    table[layout::mark_at(p)]
 }

@@ -8,15 +8,21 @@ use lib.ListN.{length, length-append}
 use Rattle.meaning.specs.declared.Record.{Record}
 use Rattle.meaning.specs.declared.Reply.the-variants.{Carried, Refused}
 use Rattle.meaning.specs.Table.{Node, logMost, count, held, node, Sound, Shaped}
-use Rattle.meaning.specs.Node.{ended}
+use Rattle.meaning.specs.Node.{finished, ended}
 use Rattle.meaning.specs.Steps.{finishesA, finishesB, overfull, carried}
-use Rattle.meaning.proofs.TableLaws.{held-log, node-shaped, put-held}
+use Rattle.meaning.proofs.TableLaws.{held-log, node-shaped, node-same, node-other, put-held}
 use Rattle.meaning.proofs.StepLaws.{taken, ended-log, ended-shaped, once-sound, once-count, once-held, once-log, once-began}
-use Rattle.openings.specs.Begun.{begun, crowds, heldLog, Shows}
+use Rattle.openings.specs.Begun.{begun, rowed, crowds, heldLog, Shows}
 use Rattle.openings.proofs.LogLaws.{whole-log}
-use Rattle.sides.specs.Ended.{sided, Sided, Sides}
+use Rattle.sides.specs.Ended.{sided, shownTo, Sided, Sides}
 use Rattle.sides.proofs.SideLaws.{crowd}
 use Rattle.exchanges.specs.Met.{crowded, Exchanged, Meets, Traded}
+
+-- a side keeps its mark
+ended-mark : (f : Bool) (x y : Node) → ended f x y .mark ≡ x .mark
+unfolding finished
+ended-mark true x y = refl
+ended-mark false x y = refl
 
 pub turned : {t : List ℕ} {a b : ℕ} {sa ka sb kb : List ℕ} → Meets t a b sa ka sb kb → Meets t b a sb kb sa ka
 turned m = record { isSound = m .isSound; hereA = m .hereB; hereB = m .hereA; apart = λ e. m .apart (sym e); longA = m .longB; longB = m .longA }
@@ -42,17 +48,17 @@ module _ {t : List ℕ} {a b : ℕ} {sa ka sb kb : List ℕ} (m : Meets t a b sa
   -- what it answers, in terms of the two nodes
   pub room :
       (ha hb : ℕ) → ha ≡ held t a → hb ≡ held t b → (f r x : Bool) → r ≡ crowds f sa ha (heldLog t b hb) → r ≡ x →
-      overfull f (begun sa ka (node t a .log)) (begun sb kb (node t b .log)) ≡ x
+      overfull f (rowed t a sa ka) (rowed t b sb kb) ≡ x
   room ha hb ea eb f r x er h =
-      sym (crowd t a sa ka sb kb (node t b .log) ha ea f) ∙ ap (λ (l : List Record). crowds f sa ha l) (sym (whole-log t b hb eb)) ∙ sym er ∙ h
+      sym (crowd t a sa ka sb kb (node t b .log) (node t b .mark) ha ea f) ∙ ap (λ (l : List Record). crowds f sa ha l) (sym (whole-log t b hb eb)) ∙ sym er ∙ h
 
-  shapedA : Shaped (count t) (begun sa ka (node t a .log))
+  shapedA : Shaped (count t) (rowed t a sa ka)
   shapedA =
       let s = node-shaped t (m .isSound) a (m .hereA) in
       record { summaryLong = m .longA .0; acksLong = m .longA .1; logShort = s .logShort }
 
 module _ {t : List ℕ} {a b : ℕ} {sa ka sb kb : List ℕ} (m : Meets t a b sa ka sb kb) (ha hb : ℕ) (ea : ha ≡ held t a) (eb : hb ≡ held t b) (f : Bool)
-    (roomA : overfull f (begun sa ka (node t a .log)) (begun sb kb (node t b .log)) ≡ false) where
+    (roomA : overfull f (rowed t a sa ka) (rowed t b sb kb) ≡ false) where
   -- side a, shown all of b's records
   pub first : Sides t f a b sa ka sb kb ha hb
   first =
@@ -65,55 +71,74 @@ module _ {t : List ℕ} {a b : ℕ} {sa ka sb kb : List ℕ} (m : Meets t a b sa
         longQ = m .longB;
         mine = ea;
         theirs = omega arith;
-        room = ap (λ (l : List Record). overfull f (begun sa ka (node t a .log)) (begun sb kb l)) (whole-log t b hb eb) ∙ roomA;
+        room = ap (λ (l : List Record). overfull f (rowed t a sa ka) (begun sb kb l (node t b .mark))) (whole-log t b hb eb) ∙ roomA;
       }
 
   -- after it, from a table v: all of b is as it was, and a's log begins with what it held
   module _ {na : ℕ} {v : List ℕ} (s : Sided t f a b sa ka sb kb ha hb na v) where
-    half : v ≡ sided f a (begun sa ka (node t a .log)) (begun sb kb (node t b .log)) t
-    half = s .leaves ∙ ap (λ (l : List Record). sided f a (begun sa ka (node t a .log)) (begun sb kb l) t) (whole-log t b hb eb)
+    half : v ≡ sided f a (rowed t a sa ka) (rowed t b sb kb) t
+    half = s .leaves ∙ ap (λ (l : List Record). sided f a (rowed t a sa ka) (begun sb kb l (node t b .mark)) t) (whole-log t b hb eb)
 
-    pub came-a : na - ha ≡ carried f (begun sa ka (node t a .log)) (begun sb kb (node t b .log))
+    pub came-a : na - ha ≡ carried f (rowed t a sa ka) (rowed t b sb kb)
     came-a =
-        let c = ap (λ (l : List Record). carried f (begun sa ka (node t a .log)) (begun sb kb l)) (whole-log t b hb eb) in
+        let c = ap (λ (l : List Record). carried f (rowed t a sa ka) (begun sb kb l (node t b .mark))) (whole-log t b hb eb) in
         let n = s .total in
         omega arith
 
     sound : Sound v
     sound =
         rw half
-        (once-sound t (m .isSound) a b (m .hereA) (m .hereB) (λ e. m .apart (sym e)) (begun sa ka (node t a .log)) (begun sb kb (node t b .log))
+        (once-sound t (m .isSound) a b (m .hereA) (m .hereB) (λ e. m .apart (sym e)) (rowed t a sa ka) (rowed t b sb kb)
         (shapedA m) (shapedA (turned m)) f roomA refl refl)
 
     nodes : count v ≡ count t
     nodes =
         rw half
-        (once-count t (m .isSound) a b (m .hereA) (m .hereB) (λ e. m .apart (sym e)) (begun sa ka (node t a .log)) (begun sb kb (node t b .log))
+        (once-count t (m .isSound) a b (m .hereA) (m .hereB) (λ e. m .apart (sym e)) (rowed t a sa ka) (rowed t b sb kb)
         (shapedA m) (shapedA (turned m)) f roomA refl refl)
 
     heldB : held v b ≡ held t b
     heldB =
         rw half
-        (once-held t (m .isSound) a b (m .hereA) (m .hereB) (λ e. m .apart (sym e)) (begun sa ka (node t a .log)) (begun sb kb (node t b .log))
+        (once-held t (m .isSound) a b (m .hereA) (m .hereB) (λ e. m .apart (sym e)) (rowed t a sa ka) (rowed t b sb kb)
         (shapedA m) (shapedA (turned m)) f roomA refl refl)
 
     logB : node v b .log ≡ node t b .log
     logB =
         rw half
-        (once-log t (m .isSound) a b (m .hereA) (m .hereB) (λ e. m .apart (sym e)) (begun sa ka (node t a .log)) (begun sb kb (node t b .log))
+        (once-log t (m .isSound) a b (m .hereA) (m .hereB) (λ e. m .apart (sym e)) (rowed t a sa ka) (rowed t b sb kb)
         (shapedA m) (shapedA (turned m)) f roomA refl refl)
 
     logA : heldLog v a ha ≡ node t a .log
     logA =
         rw half
-        (once-began t (m .isSound) a b (m .hereA) (m .hereB) (λ e. m .apart (sym e)) (begun sa ka (node t a .log)) (begun sb kb (node t b .log))
+        (once-began t (m .isSound) a b (m .hereA) (m .hereB) (λ e. m .apart (sym e)) (rowed t a sa ka) (rowed t b sb kb)
         (shapedA m) (shapedA (turned m)) f roomA refl refl ha ea)
+
+    -- and both marks are as they were
+    markB : node v b .mark ≡ node t b .mark
+    markB =
+        let x = rowed t a sa ka in
+        let y = rowed t b sb kb in
+        rw half
+        (ap (λ (z : Node). z .mark)
+        (node-other t (m .isSound) a (m .hereA) (ended f x y) (ended-shaped (count t) x (shapedA m) y (shapedA (turned m)) f roomA) b (m .hereB)
+        (λ e. m .apart (sym e))))
+
+    markA : node v a .mark ≡ node t a .mark
+    markA =
+        let x = rowed t a sa ka in
+        let y = rowed t b sb kb in
+        rw half
+        (ap (λ (z : Node). z .mark)
+        (node-same t (m .isSound) a (m .hereA) (ended f x y) (ended-shaped (count t) x (shapedA m) y (shapedA (turned m)) f roomA)) ∙
+        ended-mark f x y)
 
     -- a holds what it began with, and what it took
     heldA : ha ≤ held v a
     heldA =
-        let x = begun sa ka (node t a .log) in
-        let y = begun sb kb (node t b .log) in
+        let x = rowed t a sa ka in
+        let y = rowed t b sb kb in
         let p = put-held t (m .isSound) a (m .hereA) (ended f x y) (ended-shaped (count t) x (shapedA m) y (shapedA (turned m)) f roomA) in
         let l = ap length (ended-log f x y) ∙ length-append (node t a .log) (taken f x y) in
         let e = held-log t a in
@@ -121,7 +146,7 @@ module _ {t : List ℕ} {a b : ℕ} {sa ka sb kb : List ℕ} (m : Meets t a b sa
         omega arith
 
     -- side b, shown what a began with
-    module _ (g : Bool) (roomB : overfull g (begun sb kb (node t b .log)) (begun sa ka (node t a .log)) ≡ false) where
+    module _ (g : Bool) (roomB : overfull g (rowed t b sb kb) (rowed t a sa ka) ≡ false) where
       pub second : Sides v g b a sb kb sa ka hb ha
       second =
           record {
@@ -133,22 +158,24 @@ module _ {t : List ℕ} {a b : ℕ} {sa ka sb kb : List ℕ} (m : Meets t a b sa
             longQ = (m .longA .0 ∙ sym nodes, m .longA .1 ∙ sym nodes);
             mine = eb ∙ sym heldB;
             theirs = heldA;
-            room = ap₂ (λ (l l′ : List Record). overfull g (begun sb kb l) (begun sa ka l′)) logB logA ∙ roomB;
+            room = (λ i. overfull g (begun sb kb (logB i) (markB i)) (begun sa ka (logA i) (markA i))) ∙ roomB;
           }
 
       both :
           {nb : ℕ} {u : List ℕ} → Sided v g b a sb kb sa ka hb ha nb u →
-          (nb - hb ≡ carried g (begun sb kb (node t b .log)) (begun sa ka (node t a .log))) ×
+          (nb - hb ≡ carried g (rowed t b sb kb) (rowed t a sa ka)) ×
           (u ≡
-          sided g b (begun sb kb (node t b .log)) (begun sa ka (node t a .log))
-          (sided f a (begun sa ka (node t a .log)) (begun sb kb (node t b .log)) t))
+          sided g b (rowed t b sb kb) (rowed t a sa ka)
+          (sided f a (rowed t a sa ka) (rowed t b sb kb) t))
       both {nb} w =
-          let c = ap₂ (λ (l l′ : List Record). carried g (begun sb kb l) (begun sa ka l′)) logB logA in
+          let c : carried g (rowed v b sb kb) (shownTo a ha sa ka v) ≡ carried g (rowed t b sb kb) (rowed t a sa ka) =
+          λ i. carried g (begun sb kb (logB i) (markB i)) (begun sa ka (logA i) (markA i))
+          in
           let n = w .total in
-          let d : nb - hb ≡ carried g (begun sb kb (node t b .log)) (begun sa ka (node t a .log)) = omega arith in (
+          let d : nb - hb ≡ carried g (rowed t b sb kb) (rowed t a sa ka) = omega arith in (
             d,
-            w .leaves ∙ ap₂ (λ (l l′ : List Record). sided g b (begun sb kb l) (begun sa ka l′) v) logB logA ∙
-                ap (sided g b (begun sb kb (node t b .log)) (begun sa ka (node t a .log))) half,
+            w .leaves ∙ (λ i. sided g b (begun sb kb (logB i) (markB i)) (begun sa ka (logA i) (markA i)) v) ∙
+                ap (sided g b (rowed t b sb kb) (rowed t a sa ka)) half,
           )
 
       -- the whole session, of the outcome o that the sides finish by
@@ -156,8 +183,8 @@ module _ {t : List ℕ} {a b : ℕ} {sa ka sb kb : List ℕ} (m : Meets t a b sa
           (o : ℕ) → f ≡ finishesA o → g ≡ finishesB o → {nb : ℕ} {u : List ℕ} → Sided v g b a sb kb sa ka hb ha nb u →
           Exchanged t o a b sa ka sb kb (Carried (na - ha) (nb - hb)) u
       traded o ef eg w =
-          let x = begun sa ka (node t a .log) in
-          let y = begun sb kb (node t b .log) in
+          let x = rowed t a sa ka in
+          let y = rowed t b sb kb in
           let not-full : crowded o x y ≡ false =
           ap₂ (λ (p q : Bool). overfull p x y || overfull q y x) (sym ef) (sym eg) ∙ ap₂ _||_ roomA roomB
           in

@@ -6,9 +6,9 @@ use Prim.Native.Nat.{ℕ, _<_}
 use lib.ListN.{length}
 use Rattle.meaning.specs.declared.Reply.{Reply}
 use Rattle.meaning.specs.declared.Reply.the-variants.{Carried, Refused}
-use Rattle.meaning.specs.Table.{Node, count, node, Sound}
+use Rattle.meaning.specs.Table.{Node, count, Sound}
 use Rattle.meaning.specs.Steps.{finishesA, finishesB, overfull, carried}
-use Rattle.openings.specs.Begun.{begun}
+use Rattle.openings.specs.Begun.{rowed}
 use Rattle.sides.specs.Ended.{sided}
 
 -- Two nodes of a sound table, with their starting rows
@@ -33,4 +33,4 @@ pub record Traded (t : List ℕ) (o a b : ℕ) (x y : Node) (r : Reply) (u : Lis
 
 -- the same, from the starting rows
 abbrev pub Exchanged : List ℕ → ℕ → ℕ → ℕ → List ℕ → List ℕ → List ℕ → List ℕ → Reply → List ℕ → Type 0
-Exchanged t o a b sa ka sb kb r u = Traded t o a b (begun sa ka (node t a .log)) (begun sb kb (node t b .log)) r u
+Exchanged t o a b sa ka sb kb r u = Traded t o a b (rowed t a sa ka) (rowed t b sb kb) r u

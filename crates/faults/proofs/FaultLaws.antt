@@ -80,12 +80,16 @@ module _ (k : ℕ) where
   unfolding dueOf knownIn digitsIn widthsIn journalKinds
   due-purge e = rw e refl
 
-pub due-none : (k : ℕ) → (k ≡ 0 → ⊥) → (k ≡ 1 → ⊥) → (k ≡ 2 → ⊥) → (k ≡ 3 → ⊥) → 0 ≡ dueOf k
+  pub due-deliver : k ≡ 5 → 6 ≡ dueOf k
+  unfolding dueOf knownIn digitsIn widthsIn journalKinds
+  due-deliver e = rw e refl
+
+pub due-none : (k : ℕ) → (k ≡ 0 → ⊥) → (k ≡ 1 → ⊥) → (k ≡ 2 → ⊥) → (k ≡ 3 → ⊥) → (k ≡ 5 → ⊥) → 0 ≡ dueOf k
 unfolding dueOf
-due-none k p q r s = go (known k) refl
+due-none k p q r s t = go (known k) refl
   where
     go : (b : Bool) → known k ≡ b → 0 ≡ cond b (digitsOf k) 0
-    go true x = absurd (kind-cases (λ (m : ℕ). k ≡ m → ⊥) p q r s k x refl)
+    go true x = absurd (kind-cases (λ (m : ℕ). k ≡ m → ⊥) p q r s t k x refl)
     go false x = refl
 
 -- "n is not 2 to 16"

@@ -17,6 +17,7 @@ pub(crate) fn length_of(kind: u8) -> usize
         1 => 24,
         2 => 26,
         3 => 6,
+        5 => 6,
         _ => 0,
     }
 }

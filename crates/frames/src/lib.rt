@@ -13,7 +13,7 @@ use fields::seal;
 use fields::split;
 use spelling::spell;
 
-// The frame of a kind with one byte, a start or a purge.
+// The frame of a kind with one byte: a start, a purge or a delivery.
 pub fn put_short(out: &mut [u8], kind: u8, n: u8)
     requires { ⌜ (widths kind ≡ 1 ∷ []) × (7 ≤ length (now out)) ⌝ }
     ensures { λ _. ⌜ now (out .exit) ≡ place 0 (frameOf kind (n ∷ [])) (now (out .entry)) ⌝ }

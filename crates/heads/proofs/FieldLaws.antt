@@ -26,7 +26,7 @@ use Rattle.meaning.specs.Frames.{
 }
 use Rattle.meaning.proofs.FrameLaws.{kind-cases}
 use Rattle.numbers.specs.Numbers.{fieldAt}
-use Rattle.heads.specs.Heads.{Whole, writeAt, sessionAt, purgeAt}
+use Rattle.heads.specs.Heads.{Whole, writeAt, sessionAt, purgeAt, deliverAt}
 use Rattle.numbers.proofs.NumberLaws.{first-byte}
 
 -- the first byte is the kind
@@ -60,16 +60,20 @@ pub action-purge : (l : List ℕ) (kind : ℕ) → lineKind (bytesOf l) ≡ kind
 unfolding actionOf fieldsFrom widthsIn journalKinds
 action-purge l kind p q = rw (q, line-fields l 3 (p ∙ q)) refl
 
--- a journal's kinds, one by one, with their digits
-pub kind-lengths : (P : ℕ → ℕ → Type 0) → P 0 6 → P 1 24 → P 2 26 → P 3 6 → (k : ℕ) → known k ≡ true → P k (digitsOf k)
-unfolding digitsIn widthsIn journalKinds
-kind-lengths P a b c d = kind-cases (λ (k : ℕ). P k (digitsOf k)) a b c d
+pub action-deliver : (l : List ℕ) (kind : ℕ) → lineKind (bytesOf l) ≡ kind → kind ≡ 5 → deliverAt l ≡ actionOf kind (lineFields (bytesOf l))
+unfolding actionOf fieldsFrom widthsIn journalKinds
+action-deliver l kind p q = rw (q, line-fields l 5 (p ∙ q)) refl
 
--- of the known kinds only a purge is no start, write or session
-pub rest-purge : (k : ℕ) → known k ≡ true → (k ≡ 0 → ⊥) → (k ≡ 1 → ⊥) → (k ≡ 2 → ⊥) → k ≡ 3
+-- a journal's kinds, one by one, with their digits
+pub kind-lengths : (P : ℕ → ℕ → Type 0) → P 0 6 → P 1 24 → P 2 26 → P 3 6 → P 5 6 → (k : ℕ) → known k ≡ true → P k (digitsOf k)
+unfolding digitsIn widthsIn journalKinds
+kind-lengths P a b c d e = kind-cases (λ (k : ℕ). P k (digitsOf k)) a b c d e
+
+-- of the known kinds only a purge is no start, write, session or delivery
+pub rest-purge : (k : ℕ) → known k ≡ true → (k ≡ 0 → ⊥) → (k ≡ 1 → ⊥) → (k ≡ 2 → ⊥) → (k ≡ 5 → ⊥) → k ≡ 3
 rest-purge =
-    kind-cases (λ (k : ℕ). (k ≡ 0 → ⊥) → (k ≡ 1 → ⊥) → (k ≡ 2 → ⊥) → k ≡ 3) (λ p q r. absurd (p refl)) (λ p q r. absurd (q refl)) (λ p q r. absurd (r refl))
-    (λ p q r. refl)
+    kind-cases (λ (k : ℕ). (k ≡ 0 → ⊥) → (k ≡ 1 → ⊥) → (k ≡ 2 → ⊥) → (k ≡ 5 → ⊥) → k ≡ 3) (λ p q r s. absurd (p refl)) (λ p q r s. absurd (q refl))
+    (λ p q r s. absurd (r refl)) (λ p q r s. refl) (λ p q r s. absurd (s refl))
 
 pub whole-at : {l : List ℕ} {kind : ℕ} (k : ℕ) → Whole l kind → kind ≡ k → length l ≡ digitsOf k
 whole-at k w e = w .long ∙ ap digitsOf e

@@ -48,7 +48,7 @@ use Rattle.meaning.proofs.BitLaws.{or-left, or-right}
 use Rattle.numbers.proofs.NumberLaws.{byte-field}
 use Rattle.digits.proofs.DigitLaws.{sum-right, sum-digits}
 use Rattle.heads.proofs.CheckLaws.{check-digits, check-right}
-use Rattle.heads.specs.Heads.{accepted, shortOf, mayHold, isOutcome}
+use Rattle.heads.specs.Heads.{accepted, noLine, shortOf, mayHold, isOutcome}
 use Rattle.heads.proofs.FieldLaws.{kind-lengths, start-test, start-other, outcome-test, outcome-other}
 use Rattle.heads.proofs.HeadLaws.{accepted-good, accepted-is, accepted-not, six}
 
@@ -102,15 +102,15 @@ module _ (l : List ℕ) (g : Good l) where
   pub kind-24 : length l ≡ 24 → lineKind (bytesOf l) ≡ 1
   kind-24 long =
       kind-lengths (λ (k n : ℕ). length l ≡ n → k ≡ 1) (λ e. absurd (omega arith)) (λ e. refl) (λ e. absurd (omega arith)) (λ e. absurd (omega arith))
-      (lineKind (bytesOf l)) (g .has-kind) (g .long)
+      (λ e. absurd (omega arith)) (lineKind (bytesOf l)) (g .has-kind) (g .long)
 
   pub kind-26 : length l ≡ 26 → lineKind (bytesOf l) ≡ 2
   kind-26 long =
       kind-lengths (λ (k n : ℕ). length l ≡ n → k ≡ 2) (λ e. absurd (omega arith)) (λ e. absurd (omega arith)) (λ e. refl) (λ e. absurd (omega arith))
-      (lineKind (bytesOf l)) (g .has-kind) (g .long)
+      (λ e. absurd (omega arith)) (lineKind (bytesOf l)) (g .has-kind) (g .long)
 
   pub no-length : (length l ≡ 6 → ⊥) → (length l ≡ 24 → ⊥) → (length l ≡ 26 → ⊥) → ⊥
-  no-length p q r = kind-lengths (λ (k n : ℕ). length l ≡ n → ⊥) p q r p (lineKind (bytesOf l)) (g .has-kind) (g .long)
+  no-length p q r = kind-lengths (λ (k n : ℕ). length l ≡ n → ⊥) p q r p p (lineKind (bytesOf l)) (g .has-kind) (g .long)
 
 -- a line of 24 characters: the kind's two, and the sum
 module _ (l : List ℕ) (long : length l ≡ 24) where
@@ -190,26 +190,26 @@ module _ (l : List ℕ) (long : length l ≡ 26) where
         sum-right (drop 2 l) 254 (digits-after l (g .digits)) rest,
       )
 
--- an accepted line shorter than a write's has six characters, and holds less than 1024
+-- an accepted line shorter than a write's has six characters, and holds less than noLine
 module _ (l : List ℕ) (g : Good l) where
   pub short-six : length l < 24 → length l ≡ 6
   short-six small =
-      kind-lengths (λ (k n : ℕ). length l ≡ n → length l ≡ 6) (λ e. e) (λ e. absurd (omega arith)) (λ e. absurd (omega arith)) (λ e. e)
+      kind-lengths (λ (k n : ℕ). length l ≡ n → length l ≡ 6) (λ e. e) (λ e. absurd (omega arith)) (λ e. absurd (omega arith)) (λ e. e) (λ e. e)
       (lineKind (bytesOf l)) (g .has-kind) (g .long)
 
   pub field-small : length l ≡ 6 → fieldAt l 1 1 < 256
   field-small six-long =
       omega (arith, byte-field l 1 (omega arith), digits-at l 2 (g .digits) (omega arith), digits-at l 3 (g .digits) (omega arith))
 
-  kind-small : lineKind (bytesOf l) ≤ 3
-  kind-small = kind-cases (λ (m : ℕ). m ≤ 3) (omega arith) (omega arith) (omega arith) (omega arith) (lineKind (bytesOf l)) (g .has-kind)
+  kind-small : lineKind (bytesOf l) ≤ 255
+  kind-small = kind-cases (λ (m : ℕ). m ≤ 255) (omega arith) (omega arith) (omega arith) (omega arith) (omega arith) (lineKind (bytesOf l)) (g .has-kind)
 
-  pub held-small : length l < 24 → 256 * lineKind (bytesOf l) + fieldAt l 1 1 < 1024
+  pub held-small : length l < 24 → 256 * lineKind (bytesOf l) + fieldAt l 1 1 < noLine
   held-small small = omega (arith, kind-small, field-small (short-six small))
 
 -- what a line of six characters holds
 module _ (l : List ℕ) where
-  pub short-none : (Good l → ⊥) → 1024 ≡ shortOf l
+  pub short-none : (Good l → ⊥) → noLine ≡ shortOf l
   unfolding shortOf
   short-none h = cc (accepted-not l h)
 
@@ -218,25 +218,25 @@ module _ (l : List ℕ) where
   short-some x g e = e ∙ cc (accepted-is l g)
 
   module _ (x : ℕ) (e : x ≡ shortOf l) where
-    pub short-tells : x < 1024 → Good l × (x ≡ 256 * lineKind (bytesOf l) + fieldAt l 1 1)
+    pub short-tells : x < noLine → Good l × (x ≡ 256 * lineKind (bytesOf l) + fieldAt l 1 1)
     unfolding shortOf
     short-tells h = go (accepted l) refl e
       where
-        go : (b : Bool) → accepted l ≡ b → x ≡ cond b (256 * lineKind (bytesOf l) + fieldAt l 1 1) 1024
+        go : (b : Bool) → accepted l ≡ b → x ≡ cond b (256 * lineKind (bytesOf l) + fieldAt l 1 1) noLine
             → Good l × (x ≡ 256 * lineKind (bytesOf l) + fieldAt l 1 1)
         go true p q = (accepted-good l p, q)
         go false p q = absurd (omega arith)
 
-    pub short-sure : length l < 24 → ltb x 1024 ≡ accepted l
+    pub short-sure : length l < 24 → ltb x noLine ≡ accepted l
     unfolding shortOf
     short-sure small = go (accepted l) refl e
       where
-        go : (b : Bool) → accepted l ≡ b → x ≡ cond b (256 * lineKind (bytesOf l) + fieldAt l 1 1) 1024 → ltb x 1024 ≡ b
-        go true p q = lt-ltb x 1024 (omega (arith, held-small l (accepted-good l p) small))
-        go false p q = le-ltb x 1024 (omega arith)
+        go : (b : Bool) → accepted l ≡ b → x ≡ cond b (256 * lineKind (bytesOf l) + fieldAt l 1 1) noLine → ltb x noLine ≡ b
+        go true p q = lt-ltb x noLine (omega (arith, held-small l (accepted-good l p) small))
+        go false p q = le-ltb x noLine (omega arith)
 
-    pub short-refused : 1024 ≤ x → length l < 24 → Good l → ⊥
-    short-refused h small g = true≢false (sym (accepted-is l g) ∙ sym (short-sure small) ∙ le-ltb x 1024 h)
+    pub short-refused : noLine ≤ x → length l < 24 → Good l → ⊥
+    short-refused h small g = true≢false (sym (accepted-is l g) ∙ sym (short-sure small) ∙ le-ltb x noLine h)
 
 -- a line of six characters: the kind's two, the field's two, and the check byte's as they must be
 module _ (a b c d e f : ℕ) where
@@ -281,12 +281,17 @@ module _ (a b c d e f : ℕ) where
       (λ z w.
       let chars = chars-of-six 0 (omega arith) z in
       let wrong : not (countRight n) ≡ false = ap (λ (m : ℕ). not (countRight m)) (sym field-is) ∙ sym (start-test line 0 z refl) ∙ g .start in
-      (chars .0, cc (not-false (countRight n) wrong, ne-eqb b 51 (omega (arith, chars .1)), eq-eqb b 48 (chars .1)), omega (arith, chars .1, kind-of-six)))
+      let no-purge = ne-eqb b 51 (omega (arith, chars .1)) in
+      let no-delivery = ne-eqb b 53 (omega (arith, chars .1)) in
+      (chars .0, cc (not-false (countRight n) wrong, no-purge, no-delivery, eq-eqb b 48 (chars .1)), omega (arith, chars .1, kind-of-six)))
       (λ z w. absurd (omega arith))
       (λ z w. absurd (omega arith))
       (λ z w.
       let chars = chars-of-six 3 (omega arith) z in
       (chars .0, cc (eq-eqb b 51 (chars .1)), omega (arith, chars .1, kind-of-six)))
+      (λ z w.
+      let chars = chars-of-six 5 (omega arith) z in
+      (chars .0, cc (ne-eqb b 51 (omega (arith, chars .1)), eq-eqb b 53 (chars .1)), omega (arith, chars .1, kind-of-six)))
       k has is six-long
 
   digit-of-six : Good line → (i : ℕ) → i < 6 → digitValue (getD (six a b c d e f) i 0) < 16
@@ -319,15 +324,16 @@ module _ (a b c d e f : ℕ) where
         lt-ltb (digitValue f) 16 u,
       )
 
-  -- the kind is 0 or 3 by its character, and a start's n is right
+  -- the kind is 0, 3 or 5 by its character, and a start's n is right
   held-cases : mayHold b n ≡ true
       → ((k : ℕ) → b ≡ 48 + k → k ≤ 9 → known k ≡ true → 6 ≡ digitsOf k → (k ≡ 2 → ⊥) → (k ≡ 0 → countRight n ≡ true) → Good line) → Good line
   unfolding mayHold knownIn digitsIn widthsIn journalKinds
-  held-cases h made = go (eqb b 51) refl h
+  held-cases h made = go (eqb b 51) (eqb b 53) refl refl h
     where
-      go : (t : Bool) → eqb b 51 ≡ t → t || (eqb b 48 && countRight n) ≡ true → Good line
-      go true x y = made 3 (eqb-true b 51 x) (omega arith) refl refl (omega arith) (λ z. absurd (omega arith))
-      go false x y = made 0 (eqb-true b 48 (and-left (eqb b 48) (countRight n) y)) (omega arith) refl refl (omega arith)
+      go : (t u : Bool) → eqb b 51 ≡ t → eqb b 53 ≡ u → t || (u || (eqb b 48 && countRight n)) ≡ true → Good line
+      go true u x x′ y = made 3 (eqb-true b 51 x) (omega arith) refl refl (omega arith) (λ z. absurd (omega arith))
+      go false true x x′ y = made 5 (eqb-true b 53 x′) (omega arith) refl refl (omega arith) (λ z. absurd (omega arith))
+      go false false x x′ y = made 0 (eqb-true b 48 (and-left (eqb b 48) (countRight n) y)) (omega arith) refl refl (omega arith)
           (λ z. and-right (eqb b 48) (countRight n) y)
 
   pub six-good : Asked → Good (six a b c d e f)
@@ -365,11 +371,11 @@ module _ (a b c d e f : ℕ) where
       short-some (six a b c d e f) (256 * (b - 48) + (16 * digitValue c + digitValue d)) g (omega (arith, field-is, kind-of-six, held .2))
 
 -- the tests of a line of six characters, in the order that they are made
-pub short-first : (a b c d e f : ℕ) → (a ≡ 48 → ⊥) → 1024 ≡ shortOf (six a b c d e f)
+pub short-first : (a b c d e f : ℕ) → (a ≡ 48 → ⊥) → noLine ≡ shortOf (six a b c d e f)
 short-first a b c d e f h = short-none (six a b c d e f) (λ g. h (good-six a b c d e f g .0))
 
 module _ (a b c d e f h l : ℕ) (p : h ≡ digitValue c) (q : l ≡ digitValue d) where
-  pub short-stray : 15 < bitOr h l → 1024 ≡ shortOf (six a b c d e f)
+  pub short-stray : 15 < bitOr h l → noLine ≡ shortOf (six a b c d e f)
   short-stray s =
       short-none (six a b c d e f) (λ g.
       let asked = good-six a b c d e f g in
@@ -379,10 +385,10 @@ module _ (a b c d e f h l : ℕ) (p : h ≡ digitValue c) (q : l ≡ digitValue 
   sum-is : 16 * h + l ≡ 16 * digitValue c + digitValue d
   sum-is = omega arith
 
-  pub short-unheld : mayHold b (16 * h + l) ≡ false → 1024 ≡ shortOf (six a b c d e f)
+  pub short-unheld : mayHold b (16 * h + l) ≡ false → noLine ≡ shortOf (six a b c d e f)
   short-unheld s = short-none (six a b c d e f) (λ g. true≢false (sym (good-six a b c d e f g .3) ∙ ap (mayHold b) (sym sum-is) ∙ s))
 
-  pub short-unchecked : isCheck (b - 48 + (16 * h + l)) e f ≡ false → 1024 ≡ shortOf (six a b c d e f)
+  pub short-unchecked : isCheck (b - 48 + (16 * h + l)) e f ≡ false → noLine ≡ shortOf (six a b c d e f)
   short-unchecked s =
       short-none (six a b c d e f) (λ g.
       true≢false (sym (good-six a b c d e f g .4) ∙ ap (λ (n : ℕ). isCheck (b - 48 + n) e f) (sym sum-is) ∙ s))
@@ -396,34 +402,39 @@ module _ (a b c d e f h l : ℕ) (p : h ≡ digitValue c) (q : l ≡ digitValue 
       let check = ap (λ (n : ℕ). isCheck (b - 48 + n) e f) (sym sum-is) ∙ u in
       ap (λ (n : ℕ). 256 * (b - 48) + n) sum-is ∙ six-held a b c d e f (x, omega arith, omega arith, held, check)
 
--- a start's or a purge's field
+-- a purge's, a delivery's or a start's field
 pub hold-purge : (k n : ℕ) → k ≡ 51 → true ≡ mayHold k n
 unfolding mayHold
 hold-purge k n e = cc (eq-eqb k 51 e)
 
-pub hold-start : (k n : ℕ) → (k ≡ 51 → ⊥) → 2 ≤ n → n ≤ 16 → eqb k 48 ≡ mayHold k n
+pub hold-delivery : (k n : ℕ) → (k ≡ 51 → ⊥) → k ≡ 53 → true ≡ mayHold k n
 unfolding mayHold
-hold-start k n h p q = go (eqb k 48) refl
-  where
-    go : (b : Bool) → eqb k 48 ≡ b → b ≡ (eqb k 51 || (b && countRight n))
-    go true e = cc (ne-eqb k 51 h, count-right n p q)
-    go false e = cc (ne-eqb k 51 h)
+hold-delivery k n h e = cc (ne-eqb k 51 h, eq-eqb k 53 e)
 
-pub hold-none : (k n : ℕ) → (k ≡ 51 → ⊥) → (2 ≤ n → n ≤ 16 → ⊥) → false ≡ mayHold k n
+pub hold-start : (k n : ℕ) → (k ≡ 51 → ⊥) → (k ≡ 53 → ⊥) → 2 ≤ n → n ≤ 16 → eqb k 48 ≡ mayHold k n
 unfolding mayHold
-hold-none k n h p = go (eqb k 48) refl
+hold-start k n h d p q = go (eqb k 48) refl
   where
-    go : (b : Bool) → eqb k 48 ≡ b → false ≡ (eqb k 51 || (b && countRight n))
-    go true e = cc (ne-eqb k 51 h, count-wrong n p)
-    go false e = cc (ne-eqb k 51 h)
+    go : (b : Bool) → eqb k 48 ≡ b → b ≡ (eqb k 51 || (eqb k 53 || (b && countRight n)))
+    go true e = cc (ne-eqb k 51 h, ne-eqb k 53 d, count-right n p q)
+    go false e = cc (ne-eqb k 51 h, ne-eqb k 53 d)
 
-pub hold-char : (k n : ℕ) → mayHold k n ≡ true → (48 ≤ k) × (k ≤ 51)
+pub hold-none : (k n : ℕ) → (k ≡ 51 → ⊥) → (k ≡ 53 → ⊥) → (2 ≤ n → n ≤ 16 → ⊥) → false ≡ mayHold k n
 unfolding mayHold
-hold-char k n h = go (eqb k 51) refl h
+hold-none k n h d p = go (eqb k 48) refl
   where
-    go : (t : Bool) → eqb k 51 ≡ t → t || (eqb k 48 && countRight n) ≡ true → (48 ≤ k) × (k ≤ 51)
-    go true x y = let e = eqb-true k 51 x in (omega arith, omega arith)
-    go false x y = let e = eqb-true k 48 (and-left (eqb k 48) (countRight n) y) in (omega arith, omega arith)
+    go : (b : Bool) → eqb k 48 ≡ b → false ≡ (eqb k 51 || (eqb k 53 || (b && countRight n)))
+    go true e = cc (ne-eqb k 51 h, ne-eqb k 53 d, count-wrong n p)
+    go false e = cc (ne-eqb k 51 h, ne-eqb k 53 d)
+
+pub hold-char : (k n : ℕ) → mayHold k n ≡ true → (48 ≤ k) × (k ≤ 53)
+unfolding mayHold
+hold-char k n h = go (eqb k 51) (eqb k 53) refl refl h
+  where
+    go : (t u : Bool) → eqb k 51 ≡ t → eqb k 53 ≡ u → t || (u || (eqb k 48 && countRight n)) ≡ true → (48 ≤ k) × (k ≤ 53)
+    go true u x x′ y = let e = eqb-true k 51 x in (omega arith, omega arith)
+    go false true x x′ y = let e = eqb-true k 53 x′ in (omega arith, omega arith)
+    go false false x x′ y = let e = eqb-true k 48 (and-left (eqb k 48) (countRight n) y) in (omega arith, omega arith)
 
 -- an outcome's characters, as they are asked for
 pub outcome-high : (h l : ℕ) → (h ≡ 48 → ⊥) → false ≡ isOutcome h l
@@ -453,10 +464,10 @@ other-refused l h p q z = no-length l (good l z) (omega arith) p q
 
 -- a line shorter than a write's, by what it holds
 module _ (l : List ℕ) (x : ℕ) (e : x ≡ shortOf l) (few : length l < 24) where
-  pub held-refused : 1024 ≤ x → lineRefusal l ≡ 0 → ⊥
+  pub held-refused : noLine ≤ x → lineRefusal l ≡ 0 → ⊥
   held-refused h z = short-refused l x e h few (good l z)
 
-  module _ (h : x < 1024) where
+  module _ (h : x < noLine) where
     pub held-six : length l ≡ 6
     held-six = short-six l (short-tells l x e h .0) few
 

@@ -1,20 +1,20 @@
--- What a line says once the quick way is sure of it: a write, a session, a purge or a start by its digits' numbers. For the reader of one line and
--- for a journal's loop.
+-- What a line says once the quick way is sure of it: a write, a session, a purge, a delivery or a start by its digits' numbers. For the reader of one
+-- line and for a journal's loop.
 use mathlib.Core.Path.{_≡_, refl, sym, _∙_, ap}
 use mathlib.Core.List.{List}
 use Prim.Native.Nat.{ℕ, _+_, _*_, _/_, _%_, _≤_, _<_}
 use native.Mathlib.Omega.{arith}
 use lib.ListN.{length, getD, drop, length-drop}
 use Rattle.meaning.specs.declared.Action.{Action}
-use Rattle.meaning.specs.declared.Action.the-variants.{Write, Session, Purge}
+use Rattle.meaning.specs.declared.Action.the-variants.{Write, Session, Purge, Deliver}
 use Rattle.meaning.specs.declared.Line.the-variants.{Begin, Act}
 use Rattle.meaning.specs.Frames.{bytesOf, journalKinds, widthsIn, actionOf, lineKind, lineFields, readLine}
 use Rattle.meaning.proofs.FrameLaws.{Good, clear, read-begin, read-act}
 use Rattle.digits.specs.Digits.{sumOf, valuesOf}
 use Rattle.numbers.specs.Numbers.{joinedAt, fieldAt}
 use Rattle.numbers.proofs.NumberLaws.{joined-field, field-after}
-use Rattle.heads.specs.Heads.{shortOf, writeAt, sessionAt}
-use Rattle.heads.proofs.FieldLaws.{fieldsFrom, line-fields, action-write, action-session, action-purge}
+use Rattle.heads.specs.Heads.{noLine, shortOf, writeAt, sessionAt}
+use Rattle.heads.proofs.FieldLaws.{fieldsFrom, line-fields, action-write, action-session, action-purge, action-deliver}
 use Rattle.heads.proofs.QuickLaws.{write-is, write-good, session-is, session-good, field-small, short-tells}
 
 -- the step of a line that is not refused
@@ -68,8 +68,8 @@ module _ (l : List ℕ) (long : length l ≡ 26) where
       act line l (sessionOf (valuesOf (drop 2 l))) (session-good l long p q (omega (arith, outcome-of, o)) e) (omega (arith, is))
       (session-fields ∙ action-session l (lineKind (bytesOf l)) refl is)
 
--- a purge and a start of six characters, by what they hold
-module _ (l : List ℕ) (long : length l ≡ 6) (x : ℕ) (e : x ≡ shortOf l) (h : x < 1024) where
+-- a purge, a delivery and a start of six characters, by what they hold
+module _ (l : List ℕ) (long : length l ≡ 6) (x : ℕ) (e : x ≡ shortOf l) (h : x < noLine) where
   small : fieldAt l 1 1 < 256
   small = field-small l (short-tells l x e h .0) long
 
@@ -83,6 +83,11 @@ module _ (l : List ℕ) (long : length l ≡ 6) (x : ℕ) (e : x ≡ shortOf l) 
   purge-line line k =
       let is : lineKind (bytesOf l) ≡ 3 = kind-held ∙ k in
       act line l (Purge (x % 256)) (short-tells l x e h .0) (omega (arith, is)) (ap Purge field-held ∙ action-purge l (lineKind (bytesOf l)) refl is)
+
+  pub deliver-line : (line : ℕ) → x / 256 ≡ 5 → Act (record { line = line; action = Deliver (x % 256) }) ≡ readLine line l
+  deliver-line line k =
+      let is : lineKind (bytesOf l) ≡ 5 = kind-held ∙ k in
+      act line l (Deliver (x % 256)) (short-tells l x e h .0) (omega (arith, is)) (ap Deliver field-held ∙ action-deliver l (lineKind (bytesOf l)) refl is)
 
   pub start-line : (line : ℕ) → x / 256 ≡ 0 → Begin (x % 256) ≡ readLine line l
   unfolding fieldsFrom widthsIn journalKinds

@@ -6,7 +6,7 @@ use Prim.Native.Nat.{ℕ, _+_, _*_, _%_}
 use lib.ListN.{length}
 use lib.Dec.{leb, ltb, eqb}
 use Rattle.meaning.specs.declared.Action.{Action}
-use Rattle.meaning.specs.declared.Action.the-variants.{Write, Session, Purge}
+use Rattle.meaning.specs.declared.Action.the-variants.{Write, Session, Purge, Deliver}
 use Rattle.meaning.specs.Table.{countRight}
 use Rattle.meaning.specs.Frames.{digitValue, bytesOf, allDigits, known, digitsOf, lineKind, lineRefusal}
 use Rattle.numbers.specs.Numbers.{fieldAt}
@@ -15,18 +15,22 @@ use Rattle.numbers.specs.Numbers.{fieldAt}
 unfoldable pub accepted : List ℕ → Bool
 accepted l = eqb (lineRefusal l) 0
 
--- what an accepted line of six characters holds, 256 times its kind and its field; 1024 for any other line
+-- what stands for a line that is refused: above 256 times any byte and a byte more
+abbrev pub noLine : ℕ
+noLine = 65536
+
+-- what an accepted line of six characters holds, 256 times its kind and its field
 unfoldable pub shortOf : List ℕ → ℕ
-shortOf l = cond (accepted l) (256 * lineKind (bytesOf l) + fieldAt l 1 1) 1024
+shortOf l = cond (accepted l) (256 * lineKind (bytesOf l) + fieldAt l 1 1) noLine
 
 -- two characters are digits, and their byte brings this sum to zero
 unfoldable pub isCheck : ℕ → ℕ → ℕ → Bool
 isCheck sum high low =
     ltb (digitValue high) 16 && (ltb (digitValue low) 16 && eqb ((sum + (16 * digitValue high + digitValue low)) % 256) 0)
 
--- a purge, told by its kind's second character, may have any field, a start 2 to 16
+-- a purge and a delivery, told by their kind's second character, may have any field, a start 2 to 16
 unfoldable pub mayHold : ℕ → ℕ → Bool
-mayHold c n = eqb c 51 || (eqb c 48 && countRight n)
+mayHold c n = eqb c 51 || (eqb c 53 || (eqb c 48 && countRight n))
 
 -- two characters are an outcome's, 0 to 3
 unfoldable pub isOutcome : ℕ → ℕ → Bool
@@ -48,3 +52,6 @@ sessionAt l = Session (fieldAt l 1 1) (fieldAt l 2 1) (fieldAt l 3 4) (fieldAt l
 
 abbrev pub purgeAt : List ℕ → Action
 purgeAt l = Purge (fieldAt l 1 1)
+
+abbrev pub deliverAt : List ℕ → Action
+deliverAt l = Deliver (fieldAt l 1 1)

@@ -1,5 +1,5 @@
-// A line of six characters, which can only be a start or a purge: what it holds, sure in both directions. Beside it stand the laws of any line that is
-// accepted, by which `quick` tells the longer ones. Document 01, "Frames and journals".
+// A line of six characters, which can only be a start, a purge or a delivery: what it holds, sure in both directions. Beside it stand the laws of any
+// line that is accepted, by which `quick` tells the longer ones. Document 01, "Frames and journals"; document 02, T-04.
 ghost use mathlib.Core.Path.{_≡_};
 ghost use mathlib.Core.List.{[], _∷_};
 ghost use Prim.Native.Nat.{_≤_, _<_};
@@ -7,8 +7,8 @@ ghost use Rattle.meaning.specs.Frames.{digitValue, digit};
 ghost use Rattle.digits.specs.Digits.{letterValue};
 ghost use Rattle.heads.specs.Heads.{isCheck, mayHold, shortOf};
 
-// What stands for a refused line of six characters.
-pub const NO_LINE: u32 = 1024;
+// What stands for a refused line of six characters: above 256 times any byte and a byte more.
+pub const NO_LINE: u32 = 65536;
 
 // The number of a letter A to F, 16 for any other character; in a word.
 fn wide_letter(c: u32) -> u32
@@ -56,11 +56,14 @@ fn is_check(sum: u32, high: u8, low: u8) -> bool
     low as u32 == digit_of(last % 16)
 }
 
-// Whether a start or a purge, told by its kind's second character, may have this field: a start's "n is 2 to 16", a purge's is any.
+// Whether a start, a purge or a delivery, told by its kind's second character, may have this field: a start's "n is 2 to 16", that of the others is any.
 fn may_hold(kind: u8, n: u32) -> bool
     ensures { λ r. ⌜ r ≡ mayHold kind n ⌝ }
 {
     if kind == b'3' {
+        return true;
+    }
+    if kind == b'5' {
         return true;
     }
     match n {

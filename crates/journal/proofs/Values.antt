@@ -6,7 +6,7 @@ use Prim.Native.Nat.{ℕ, zero, suc}
 use lib.ListN.{length, drop}
 use lib.Dec.{leb, eqb}
 use Rattle.meaning.specs.declared.Action.{Action}
-use Rattle.meaning.specs.declared.Action.the-variants.{Write, Session, Purge}
+use Rattle.meaning.specs.declared.Action.the-variants.{Write, Session, Purge, Deliver}
 use Rattle.meaning.specs.declared.Line.{Line}
 use Rattle.meaning.specs.declared.Line.the-variants.{Begin, Act, Refused}
 use Rattle.meaning.specs.declared.Next.the-variants.{Refused as RefusedAt, End}
@@ -19,11 +19,13 @@ later-values : (next : ℕ) (x : Action) → turnValues false next (0 ∷ 0 ∷ 
 later-values next (Write p t b v) = refl
 later-values next (Session a b ca cb o) = refl
 later-values next (Purge p) = refl
+later-values next (Deliver p) = refl
 
 first-values : (next : ℕ) (x : Action) → turnValues true next (0 ∷ 0 ∷ kindOf x ∷ fieldsOf x) ≡ 15 ∷ 0 ∷ []
 first-values next (Write p t b v) = refl
 first-values next (Session a b ca cb o) = refl
 first-values next (Purge p) = refl
+first-values next (Deliver p) = refl
 
 turn-values : (first : Bool) (next : ℕ) (x : Line) → nextValues (inTurn first next x) ≡ turnValues first next (lineValues x)
 turn-values true next (Begin n) = refl

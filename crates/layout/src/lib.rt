@@ -2,10 +2,10 @@
 ghost use mathlib.Core.Path.{_≡_};
 ghost use Prim.Native.Nat.{_<_};
 ghost use lib.ListN.{length};
-ghost use Rattle.meaning.specs.Table.{tableWords, nodesMost, summaryAt, acksAt, heldAt, logAt, count, held};
+ghost use Rattle.meaning.specs.Table.{tableWords, nodesMost, summaryAt, acksAt, heldAt, logAt, markAt, count, held};
 
-// "A lent table of exactly 4,625 words of 32 bits"
-pub const TABLE_WORDS: usize = 4625;
+// "A lent table", 4,641 words of 32 bits: the marks are its last 16.
+pub const TABLE_WORDS: usize = 4641;
 
 // The most nodes of a table, which is also the words of a vector's row.
 pub const NODES_MOST: usize = 16;
@@ -52,6 +52,14 @@ pub fn log_at(p: usize) -> usize
     ensures { λ r. ⌜ r ≡ logAt p ⌝ }
 {
     529 + LOG_WORDS * p
+}
+
+// The place of node p's mark.
+pub fn mark_at(p: usize) -> usize
+    requires { ⌜ p < nodesMost ⌝ }
+    ensures { λ r. ⌜ r ≡ markAt p ⌝ }
+{
+    4625 + p
 }
 
 // The count that a table states.

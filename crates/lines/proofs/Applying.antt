@@ -10,7 +10,7 @@ use denote.Enum.Laws.{Fields, spellss, owed}
 use denote.Laws.{Is}
 use mir.Val.{Val}
 use Rattle.meaning.specs.declared.Action.{Action}
-use Rattle.meaning.specs.declared.Action.the-variants.{Write, Session, Purge}
+use Rattle.meaning.specs.declared.Action.the-variants.{Write, Session, Purge, Deliver}
 use Rattle.meaning.specs.declared.Step.{Step}
 use Rattle.meaning.specs.declared.Next.the-variants.{Act as ActAt, End}
 use Rattle.meaning.specs.declared.Progress.{Progress}
@@ -31,6 +31,7 @@ verdict-in : (x : Action) → Fields (variants A.the-type) (spellss (A.the-type 
 verdict-in (Write p t b v) f = omega (arith, f .1 .1 .1 .0 .1)
 verdict-in (Session a b ca cb o) f = omega arith
 verdict-in (Purge p) f = omega arith
+verdict-in (Deliver p) f = omega arith
 
 pub verdict-fits : (x : Action) (vs : List Val) → Is A.the-row x vs → verdictOf x ≤ 255
 verdict-fits x vs p = verdict-in x (owed A.the-type A′.the-laws x vs p)

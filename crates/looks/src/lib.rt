@@ -28,3 +28,11 @@ pub fn own_of(t: &[u32], p: usize) -> u32
     let at = layout::summary_at(p) + p;
     t[at]
 }
+
+// Node p's mark.
+pub fn mark_of(t: &[u32], p: usize) -> u32
+    requires { ⌜ Sound (now t) × (p < count (now t)) ⌝ }
+    ensures { λ r. ⌜ r ≡ node (now (t .entry)) p .mark ⌝ }
+{
+    t[layout::mark_at(p)]
+}

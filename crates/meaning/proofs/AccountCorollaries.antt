@@ -9,7 +9,7 @@ use lib.Dec.{ltb, eqb}
 use borrow.Author.Tests.{ltb-true}
 use Rattle.meaning.specs.declared.Record.{Record}
 use Rattle.meaning.specs.declared.Action.{Action}
-use Rattle.meaning.specs.declared.Action.the-variants.{Write, Session, Purge}
+use Rattle.meaning.specs.declared.Action.the-variants.{Write, Session, Purge, Deliver}
 use Rattle.meaning.specs.declared.Step.{Step}
 use Rattle.meaning.specs.Rows.{all, covers}
 use Rattle.meaning.specs.Table.{nodesMost, count, node, fresh, Sound}
@@ -132,6 +132,7 @@ noted-more (Session a b ca cb o) x q =
     let g = gainsIf-more (finishesB o) b (lacking (x .of b) (x .of a)) of₁ q in
     (f .0 ++ g .0, g .1 ∙ ap (λ (l : List Record). l ++ g .0) (f .1) ∙ append-assoc (x .of q) (f .0) (g .0))
 noted-more (Purge p) x q = ([], sym (append-nil (x .of q)))
+noted-more (Deliver p) x q = ([], sym (append-nil (x .of q)))
 
 noteIf-more : (k : ℕ) (a : Action) (x : Account) (q : ℕ) → (l : List Record) × (noteIf k a x .of q ≡ x .of q ++ l)
 noteIf-more zero a x q = noted-more a x q
@@ -181,6 +182,7 @@ wide-verdict (Write p c b v) h =
     omega (arith, ltb-true v 256 (and-left d true (and-right e (d && true) g)))
 wide-verdict (Session a b ca cb o) h = omega arith
 wide-verdict (Purge p) h = omega arith
+wide-verdict (Deliver p) h = omega arith
 
 -- a sound table stays sound through every such list, so from a fresh one every table of a run is sound
 befell-sound : (x : Run) (e : Event) → wideEvent e ≡ true → Sound (x .table) → Sound (befell x e .table)

@@ -1,4 +1,4 @@
--- Summaries and acknowledgements never go down, however a run goes on.
+-- Summaries, acknowledgements and marks never go down, however a run goes on.
 use mathlib.Core.Path.{_≡_, refl, sym, _∙_, subst}
 use mathlib.Core.Bool.{Bool, true, false}
 use mathlib.Core.List.{List, [], _∷_, _++_}
@@ -6,11 +6,11 @@ use Prim.Native.Nat.{ℕ, zero, suc, _≤_, _<_}
 use native.Mathlib.Omega.{arith}
 use lib.ListN.{length, set, length-set}
 use Rattle.meaning.specs.declared.Action.{Action}
-use Rattle.meaning.specs.declared.Action.the-variants.{Write, Session, Purge}
+use Rattle.meaning.specs.declared.Action.the-variants.{Write, Session, Purge, Deliver}
 use Rattle.meaning.specs.declared.Step.{Step}
 use Rattle.meaning.specs.Rows.{least}
 use Rattle.meaning.specs.Table.{Node, nodesMost, count, node}
-use Rattle.meaning.specs.Node.{own, wrote, opened, finished, ended, purged}
+use Rattle.meaning.specs.Node.{own, wrote, opened, finished, ended, purged, delivered}
 use Rattle.meaning.specs.Steps.{finishesA, finishesB, refusal, limit, acted}
 use Rattle.meaning.specs.Account.{Account, Run, stepped, Event, AStep, befell, ran, run}
 use Rattle.meaning.proofs.AccountLaws.{entry, le-least, raise-entry}
@@ -19,8 +19,10 @@ use Rattle.meaning.proofs.StepLaws.{
   may-write,
   may-meet,
   may-purge,
+  may-deliver,
   write-shaped,
   purge-shaped,
+  deliver-shaped,
   opened-shaped,
   session-a,
   session-b,
@@ -31,24 +33,34 @@ use Rattle.meaning.proofs.AccountNodes.{set-up}
 use Rattle.meaning.proofs.AccountTable.{Sure, sure-run, sure-befell, stepped-accepted, stepped-refused}
 use Rattle.meaning.proofs.AccountCorollaries.{run-append}
 
--- a node whose entries are each no less than another's
+-- a node whose entries and whose mark are each no less than another's
 pub record Rises (x y : Node) : Type 0 where
   pub summary : (o : ℕ) → entry (x .summary) o ≤ entry (y .summary) o
   pub acks : (o : ℕ) → entry (x .acks) o ≤ entry (y .acks) o
+  pub mark : x .mark ≤ y .mark
 
 rises-refl : (x : Node) → Rises x x
-rises-refl x = record { summary = λ o. omega arith; acks = λ o. omega arith }
+rises-refl x = record { summary = λ o. omega arith; acks = λ o. omega arith; mark = omega arith }
 
 rises-trans : (x y z : Node) → Rises x y → Rises y z → Rises x z
-rises-trans x y z f g = record { summary = λ o. omega (arith, f .summary o, g .summary o); acks = λ o. omega (arith, f .acks o, g .acks o) }
+rises-trans x y z f g =
+    record {
+      summary = λ o. omega (arith, f .summary o, g .summary o);
+      acks = λ o. omega (arith, f .acks o, g .acks o);
+      mark = omega (arith, f .mark, g .mark);
+    }
 
 rises-wrote : (p c b v : ℕ) (x : Node) → p < length (x .summary) → own p x < c → Rises x (wrote p c b v x)
 unfolding wrote own
-rises-wrote p c b v x below later = record { summary = λ o. set-up (x .summary) p c o below (omega arith); acks = λ o. omega arith }
+rises-wrote p c b v x below later = record { summary = λ o. set-up (x .summary) p c o below (omega arith); acks = λ o. omega arith; mark = omega arith }
 
 rises-purged : (limit : ℕ) (x : Node) → Rises x (purged limit x)
 unfolding purged
-rises-purged limit x = record { summary = λ o. omega arith; acks = λ o. omega arith }
+rises-purged limit x = record { summary = λ o. omega arith; acks = λ o. omega arith; mark = omega arith }
+
+rises-delivered : (x : Node) → Rises x (delivered x)
+unfolding delivered
+rises-delivered x = record { summary = λ o. omega arith; acks = λ o. omega arith; mark = omega arith }
 
 -- opening raises the own acknowledgement, since it was at most every entry of the summary
 rises-opened : (n p c : ℕ) (nodes : ℕ → Node) (x : Account) → p < n → own p (nodes p) ≤ c → Whole n nodes x → Rises (nodes p) (opened p c (nodes p))
@@ -64,6 +76,7 @@ rises-opened n p c nodes x below up w =
           set-up (nodes p .acks) p (least (set s p c)) o (omega arith)
           (le-least (set s p c) (entry (nodes p .acks) p) (omega arith)
           (λ i j. omega (arith, w .holds p below .acked .reached p i below (omega arith), set-up s p c i (omega arith) up)));
+      mark = omega arith;
     }
 
 rises-ended : (n : ℕ) (f : Bool) (mine theirs : Node) → length (mine .summary) ≡ length (theirs .summary) → length (mine .acks) ≡ length (theirs .acks) →
@@ -73,13 +86,14 @@ rises-ended n true mine theirs e f =
     record {
       summary = λ o. omega (arith, raise-entry (mine .summary) (theirs .summary) o e);
       acks = λ o. omega (arith, raise-entry (mine .acks) (theirs .acks) o f);
+      mark = omega arith;
     }
 rises-ended n false mine theirs e f = rises-refl mine
 
 rises-at : (x y z : Node) → y ≡ z → Rises x z → Rises x y
 rises-at x y z e r = rw e r
 
-rises-acted :
+pub rises-acted :
     (t : List ℕ) (a : Action) (x : Account) → refusal t a ≡ 0 → Whole (count t) (node t) x → (q : ℕ) → q < count t →
     Rises (node t q) (node (acted t a) q)
 unfolding acted
@@ -121,6 +135,14 @@ rises-acted t (Purge p) x k w =
     each (λ (q : ℕ). Rises (node t q) (node (acted t (Purge p)) q)) (count t) p
     (rises-at (node t p) (node (acted t (Purge p)) p) y (node-same t s p (m .here) y fits) (rises-purged (limit t p) (node t p)))
     (λ q h ne. rises-at (node t q) (node (acted t (Purge p)) q) (node t q) (node-other t s p (m .here) y fits q h ne) (rises-refl (node t q)))
+rises-acted t (Deliver p) x k w =
+    let m = may-deliver t p k in
+    let s = m .isSound in
+    let y = delivered (node t p) in
+    let fits = deliver-shaped t p m in
+    each (λ (q : ℕ). Rises (node t q) (node (acted t (Deliver p)) q)) (count t) p
+    (rises-at (node t p) (node (acted t (Deliver p)) p) y (node-same t s p (m .here) y fits) (rises-delivered (node t p)))
+    (λ q h ne. rises-at (node t q) (node (acted t (Deliver p)) q) (node t q) (node-other t s p (m .here) y fits q h ne) (rises-refl (node t q)))
 
 rises-stepped-at : (n : ℕ) (x : Run) (s : Step) (k : ℕ) → refusal (x .table) (s .action) ≡ k → Sure n x → (q : ℕ) → q < n →
     Rises (node (x .table) q) (node (stepped x s .table) q)

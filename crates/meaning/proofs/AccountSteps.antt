@@ -1,4 +1,4 @@
--- The invariant of demand 3 for a whole cluster, and that each action keeps it: write, session, purge, as they change the nodes.
+-- The invariant of demand 3 for a whole cluster, and that each action keeps it: write, session, purge, delivery, as they change the nodes.
 -- The nodes are any function from numbers to nodes, so a table of another form only says what its nodes are.
 use mathlib.Core.Path.{_≡_, refl, sym, ap, _∙_, subst}
 use mathlib.Core.Bool.{Bool, true, false, _||_}
@@ -10,9 +10,9 @@ use lib.ListN.{length, length-set}
 use lib.Dec.{eqb}
 use borrow.Author.Tests.{eqb-true, eqb-false, eq-eqb, ne-eqb}
 use Rattle.meaning.specs.declared.Record.{Record}
-use Rattle.meaning.specs.declared.Action.the-variants.{Write, Session, Purge}
+use Rattle.meaning.specs.declared.Action.the-variants.{Write, Session, Purge, Deliver}
 use Rattle.meaning.specs.Table.{Node}
-use Rattle.meaning.specs.Node.{own, wrote, opened, finished, ended, purged}
+use Rattle.meaning.specs.Node.{own, wrote, opened, finished, ended, purged, delivered}
 use Rattle.meaning.specs.Steps.{finishesA, finishesB}
 use Rattle.meaning.specs.Account.{sameRecord, has, lacking, Account, gains, gainsIf, noted}
 use Rattle.meaning.proofs.AccountLaws.{by-test, not-both, same-eq, has-append, has-one, once-append, entry}
@@ -165,7 +165,25 @@ module _ (n : ℕ) (nodes nodes′ : ℕ → Node) (x : Account) (p c b v : ℕ)
             (holds-grows n (world nodes x) (world nodes′ next) write-grows (nodes q) (x .of q) (k .holds q h)));
       }
 
--- Purge ----------------------------------------------------------------------------------------------------------------------------------
+-- Purge and delivery: nothing is written and no summary changes -------------------------------------------------------------------------
+
+module _ (n : ℕ) (nodes nodes′ : ℕ → Node) (x : Account) (same : (q : ℕ) → q < n → nodes′ q .summary ≡ nodes q .summary) (k : Whole n nodes x) where
+  settled-grows : Grows n (world nodes x) (world nodes′ x)
+  settled-grows =
+      record {
+        written = λ r h. h;
+        summary = λ q o h. rw (same q h) (omega arith);
+        origin = λ r f t. not-both (has r (x .written)) t f;
+        later = λ r f t. not-both (has r (x .written)) t f;
+        reached = λ r f t. not-both (has r (x .written)) t f;
+        single = λ r s f t. not-both (has r (x .written)) t f;
+      }
+
+  settled-stamped : Stamped n (world nodes′ x)
+  settled-stamped = stamped-grows n (world nodes x) (world nodes′ x) settled-grows (k .stamped)
+
+  settled-holds : (q : ℕ) → q < n → Holds n (world nodes′ x) (nodes q) (x .of q)
+  settled-holds q h = holds-grows n (world nodes x) (world nodes′ x) settled-grows (nodes q) (x .of q) (k .holds q h)
 
 module _ (n : ℕ) (nodes nodes′ : ℕ → Node) (x : Account) (p limit : ℕ) (below : p < n) (low : (q : ℕ) → q < n → limit ≤ entry (nodes p .acks) q)
     (here : nodes′ p ≡ purged limit (nodes p)) (there : (q : ℕ) → q < n → (q ≡ p → ⊥) → nodes′ q ≡ nodes q) (k : Whole n nodes x) where
@@ -176,22 +194,11 @@ module _ (n : ℕ) (nodes nodes′ : ℕ → Node) (x : Account) (p limit : ℕ)
       (ap (λ (y : Node). y .summary) here)
       (λ q h ne. ap (λ (y : Node). y .summary) (there q h ne))
 
-  purge-grows : Grows n (world nodes x) (world nodes′ x)
-  purge-grows =
-      record {
-        written = λ r h. h;
-        summary = λ q o h. rw (same-summary q h) (omega arith);
-        origin = λ r f t. not-both (has r (x .written)) t f;
-        later = λ r f t. not-both (has r (x .written)) t f;
-        reached = λ r f t. not-both (has r (x .written)) t f;
-        single = λ r s f t. not-both (has r (x .written)) t f;
-      }
-
   purge-holds : Holds n (world nodes′ x) (nodes p) (x .of p)
-  purge-holds = holds-grows n (world nodes x) (world nodes′ x) purge-grows (nodes p) (x .of p) (k .holds p below)
+  purge-holds = settled-holds n nodes nodes′ x same-summary k p below
 
   purge-stamped : Stamped n (world nodes′ x)
-  purge-stamped = stamped-grows n (world nodes x) (world nodes′ x) purge-grows (k .stamped)
+  purge-stamped = settled-stamped n nodes nodes′ x same-summary k
 
   pub whole-purge : Whole n nodes′ (noted (Purge p) x)
   unfolding noted purged
@@ -210,7 +217,30 @@ module _ (n : ℕ) (nodes nodes′ : ℕ → Node) (x : Account) (p limit : ℕ)
             }))
             (λ q h ne.
             holds-at n (world nodes′ x) (nodes′ q) (nodes q) (x .of q) (x .of q) (there q h ne) refl
-            (holds-grows n (world nodes x) (world nodes′ x) purge-grows (nodes q) (x .of q) (k .holds q h)));
+            (settled-holds n nodes nodes′ x same-summary k q h));
+      }
+
+module _ (n : ℕ) (nodes nodes′ : ℕ → Node) (x : Account) (p : ℕ) (below : p < n)
+    (here : nodes′ p ≡ delivered (nodes p)) (there : (q : ℕ) → q < n → (q ≡ p → ⊥) → nodes′ q ≡ nodes q) (k : Whole n nodes x) where
+  mark-only : (q : ℕ) → q < n → nodes′ q .summary ≡ nodes q .summary
+  unfolding delivered
+  mark-only =
+      each (λ (q : ℕ). nodes′ q .summary ≡ nodes q .summary) n p
+      (ap (λ (y : Node). y .summary) here)
+      (λ q h ne. ap (λ (y : Node). y .summary) (there q h ne))
+
+  pub whole-deliver : Whole n nodes′ (noted (Deliver p) x)
+  unfolding noted delivered
+  whole-deliver =
+      let old = settled-holds n nodes nodes′ x mark-only k in
+      record {
+        once = k .once;
+        stamped = settled-stamped n nodes nodes′ x mark-only k;
+        holds =
+            each (λ (q : ℕ). Holds n (world nodes′ x) (nodes′ q) (x .of q)) n p
+            (holds-at n (world nodes′ x) (nodes′ p) (delivered (nodes p)) (x .of p) (x .of p) here refl
+            (record { kept = old p below .kept; acked = old p below .acked }))
+            (λ q h ne. holds-at n (world nodes′ x) (nodes′ q) (nodes q) (x .of q) (x .of q) (there q h ne) refl (old q h));
       }
 
 -- Session --------------------------------------------------------------------------------------------------------------------------------

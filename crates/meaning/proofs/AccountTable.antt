@@ -7,10 +7,10 @@ use native.Mathlib.Omega.{arith}
 use lib.ListN.{length}
 use Rattle.meaning.specs.declared.Record.{Record}
 use Rattle.meaning.specs.declared.Action.{Action}
-use Rattle.meaning.specs.declared.Action.the-variants.{Write, Session, Purge}
+use Rattle.meaning.specs.declared.Action.the-variants.{Write, Session, Purge, Deliver}
 use Rattle.meaning.specs.declared.Step.{Step}
 use Rattle.meaning.specs.Table.{nodesMost, summaryAt, acksAt, count, node, fresh}
-use Rattle.meaning.specs.Node.{wrote, purged}
+use Rattle.meaning.specs.Node.{wrote, purged, delivered}
 use Rattle.meaning.specs.Steps.{limit, refusal, acted}
 use Rattle.meaning.specs.Account.{has, Account, nothing, noted, Run, noteIf, stepped, Event, AStep, befell, ran, run}
 use Rattle.meaning.proofs.PlaceLaws.{getD-part}
@@ -21,8 +21,10 @@ use Rattle.meaning.proofs.StepLaws.{
   may-write,
   may-meet,
   may-purge,
+  may-deliver,
   write-shaped,
   purge-shaped,
+  deliver-shaped,
   session-a,
   session-b,
   session-other,
@@ -33,7 +35,7 @@ use Rattle.meaning.proofs.StepLaws.{
   fresh-sound,
 }
 use Rattle.meaning.proofs.AccountLaws.{not-both, entry, least-le}
-use Rattle.meaning.proofs.AccountSteps.{Whole, whole-write, whole-session, whole-purge}
+use Rattle.meaning.proofs.AccountSteps.{Whole, whole-write, whole-session, whole-purge, whole-deliver}
 
 -- The table of a run has n nodes, and they have the invariant with the account beside them.
 pub record Sure (n : ℕ) (x : Run) : Type 0 where
@@ -116,6 +118,13 @@ whole-acted t (Purge p) x k w =
     whole-purge (count t) (node t) (node (acted t (Purge p))) x p (limit t p) (m .here) (limit-low t p (count t) (node-shaped t s p (m .here) .acksLong))
     (node-same t s p (m .here) (purged (limit t p) (node t p)) fits)
     (node-other t s p (m .here) (purged (limit t p) (node t p)) fits) w
+whole-acted t (Deliver p) x k w =
+    let m = may-deliver t p k in
+    let s = m .isSound in
+    let fits = deliver-shaped t p m in
+    whole-deliver (count t) (node t) (node (acted t (Deliver p))) x p (m .here)
+    (node-same t s p (m .here) (delivered (node t p)) fits)
+    (node-other t s p (m .here) (delivered (node t p)) fits) w
 
 -- what a step leaves of a run, accepted or refused
 pub stepped-accepted : (x : Run) (s : Step) → refusal (x .table) (s .action) ≡ 0 →

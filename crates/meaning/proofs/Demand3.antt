@@ -7,7 +7,7 @@
 -- arrival, less some records; and every record missing there is in every node's account."
 --
 -- How to read it. `run n es` (specs/Account.antt) is what the list of events `es` makes of a fresh table of n nodes, where an event is a step:
--- `.table` is the table itself, 4,625 words, changed by `after`, the function that the code's contracts cite; `.account` is the plain account
+-- `.table` is the table itself, 4,641 words, changed by `after`, the function that the code's contracts cite; `.account` is the plain account
 -- beside it, which looks at no vector and no acknowledgement. `node t p` is node p as it stands in the table t. `has r l` says whether the list l
 -- has the record r, word for word. Any list of steps: also one whose steps are wrong, since a refused step changes neither the table nor the
 -- account, and whatever numbers stand in their fields: soundness is a fact of each accepted step, by refusal 1, and need not be carried along.

@@ -1,19 +1,20 @@
--- Both sides of each edge: the cases that document 01 marks ★, the places of T-01 and the nodes of T-02, as one table that is computed. A row has a
--- name, what the definitions compute and what is expected, and holds by computation; where one does not, the checker says `Holds "its name" ..` of the
--- first that fails. The theorem `edges` is the whole table at once. Each step runs on a real table of 4,625 words: its row shows the refusal, both
--- counts, and place and new value of every word that changed, so that no other word did.
+-- Both sides of each edge: the cases that document 01 marks ★, the places of T-01, the nodes of T-02 and the deliveries of T-04, as one table that is
+-- computed. A row has a name, what the definitions compute and what is expected, and holds by computation; where one does not, the checker says
+-- `Holds "its name" ..` of the first that fails. The theorem `edges` is the whole table at once. Each step runs on a real table of 4,641 words: its row
+-- shows the refusal, both counts, and place and new value of every word that changed, so that no other word did.
 use mathlib.Core.Path.{_≡_, refl}
 use mathlib.Core.Bool.{Bool, true, false, _&&_, cond}
 use mathlib.Core.List.{List, [], _∷_, _++_, map}
 use Prim.Native.Nat.{ℕ, suc, _+_, _*_}
 use Prim.Native.String.{String}
+use lib.ListN.{replicate}
 use lib.Dec.{T, ltb, eqb, eqb→eq}
 use Rattle.meaning.specs.declared.Action.{Action}
-use Rattle.meaning.specs.declared.Action.the-variants.{Write, Session, Purge}
+use Rattle.meaning.specs.declared.Action.the-variants.{Write, Session, Purge, Deliver}
 use Rattle.meaning.specs.declared.Reply.the-variants.{Refused}
 use Rattle.meaning.specs.declared.Outcome.the-variants.{Refused as Unread}
 use Rattle.meaning.specs.Refusals.{first, firstPlace}
-use Rattle.meaning.specs.Rows.{ascii, every, keep, least, leastAt, raise, covers, newer, above, recordAt, records, words}
+use Rattle.meaning.specs.Rows.{ascii, every, keep, least, leastAt, raise, covers, newer, above, due, earlier, inserted, inOrder, recordAt, records, words}
 use Rattle.meaning.specs.Table.{
   summaryAt,
   acksAt,
@@ -23,6 +24,7 @@ use Rattle.meaning.specs.Table.{
   place,
   count,
   held,
+  mark,
   node,
   lay,
   pieces,
@@ -32,8 +34,24 @@ use Rattle.meaning.specs.Table.{
   logSound,
   sound,
 }
-use Rattle.meaning.specs.Node.{own, wrote, opened, finished, purged}
-use Rattle.meaning.specs.Steps.{refusals, refusal, limit, lagging, acted, reported, reply, after, replyValues}
+use Rattle.meaning.specs.Node.{own, wrote, opened, finished, purged, waiting, given, delivered}
+use Rattle.meaning.specs.Steps.{
+  refusals,
+  refusal,
+  limit,
+  lagging,
+  acted,
+  reported,
+  reply,
+  after,
+  replyValues,
+  dueOf,
+  lentRefusals,
+  lentRefusal,
+  lentReply,
+  lentAfter,
+  listAfter,
+}
 use Rattle.meaning.specs.Frames.{
   digit,
   digitValue,
@@ -132,8 +150,16 @@ changes i (x ∷ xs) (y ∷ ys) = changeIf (eqb x y) i y (changes (suc i) xs ys)
 does : List ℕ → Action → List ℕ
 does t x = replyValues (reply t x) ++ changes 0 t (after t x)
 
+-- what it answers alone, where the words are another row's
+answers : List ℕ → Action → List ℕ
+answers t x = replyValues (reply t x)
+
 refused : ℕ → List ℕ
 refused k = k ∷ 0 ∷ 0 ∷ []
+
+-- a delivery of p into a list of k words, each 7: refusal, count, changed words of the table, then the list
+gives : List ℕ → ℕ → ℕ → List ℕ
+gives t k p = replyValues (lentReply t k (Deliver p)) ++ (changes 0 t (lentAfter t k (Deliver p)) ++ listAfter t (replicate k 7) p)
 
 -- a fresh table of 2 after some actions
 reached : List ℕ → List Action → List ℕ
@@ -150,6 +176,26 @@ one = reached two (Write 0 1 16 0x20 ∷ [])
 -- node 0 holds timestamps 5 and 6, and its smallest acknowledgement is 5
 abbrev five : List ℕ
 five = reached two (Write 0 5 16 0x20 ∷ Session 0 1 5 5 3 ∷ Write 0 6 17 0x20 ∷ Session 0 1 6 5 3 ∷ [])
+
+-- the same after a delivery, so that the mark is 5
+abbrev fiveTold : List ℕ
+fiveTold = reached five (Deliver 0 ∷ [])
+
+-- node 0 holds 5 and 6, every acknowledgement of it is 6, and it delivered before 6 was written
+abbrev sixTold : List ℕ
+sixTold = reached two (Write 0 5 16 0x20 ∷ Session 0 1 5 5 3 ∷ Deliver 0 ∷ Write 0 6 17 0x20 ∷ Session 0 1 6 6 3 ∷ Session 0 1 6 6 3 ∷ [])
+
+-- node 0 holds its own 5 and, after it, node 1's 4; node 1 the other way round; both summaries are 5 throughout
+abbrev mixed : List ℕ
+mixed = reached two (Write 0 5 16 0x20 ∷ Write 1 4 17 0x20 ∷ Session 0 1 5 5 3 ∷ [])
+
+-- both wrote at 5
+abbrev tied : List ℕ
+tied = reached two (Write 0 5 16 0x20 ∷ Write 1 5 17 0x20 ∷ Session 0 1 5 5 3 ∷ [])
+
+-- two records of one writer and one timestamp: a sound table that no run reaches
+abbrev double : List ℕ
+double = place (logAt 1) (0 ∷ 5 ∷ 9 ∷ 0x20 ∷ 0 ∷ 5 ∷ 8 ∷ 0x20 ∷ []) (place (heldAt 1) (2 ∷ []) (place (summaryAt 1) (5 ∷ 5 ∷ []) two))
 
 -- node 1 holds a record that no summary covers: a sound table that no run reaches
 abbrev odd : List ℕ
@@ -171,7 +217,7 @@ acked n row = place (acksAt 0) row (fresh n)
 
 -- node 0 has acknowledged 8 and knows node 1 to be at 6
 abbrev behind : List ℕ
-behind = reached five (Session 0 1 9 8 3 ∷ Session 0 1 9 9 0 ∷ [])
+behind = reached five (Session 0 1 9 8 3 ∷ Session 0 1 9 9 0 ∷ Deliver 0 ∷ [])
 
 -- one record of this verdict, counted: refusal, scrubbed, touched
 verdict : ℕ → List ℕ
@@ -187,13 +233,20 @@ replays s = printed (replayed (ascii s)) (replayAfter [] (ascii s))
 example : String
 example = "0002FE\n0100000000050000001010DA\n020001000000060000000403F0\n020001000000070000000701EE\n0300FD\n020001000000080000000803EA\n0300FD\n"
 
+-- the same "with a line `0500FB` before its last"
+told : String
+told =
+    "0002FE\n0100000000050000001010DA\n020001000000060000000403F0\n020001000000070000000701EE\n0300FD\n020001000000080000000803EA\n0500FB\n0300FD\n"
+
 pub rows : List Row
-unfolding every keep least leastAt raise covers newer above recordAt records words part place count held node lay pieces putNode fresh recordSound logSound
-    sound own wrote opened finished purged refusals refusal limit lagging acted reported reply after digit digitValue spelled bytesOf allDigits strayAt total
+unfolding every keep least leastAt raise covers newer above due earlier inserted inOrder recordAt records words part place count held mark node lay
+    pieces putNode fresh recordSound logSound
+    sound own wrote opened finished purged waiting given delivered refusals refusal limit lagging acted reported reply after dueOf lentRefusals
+    lentRefusal lentReply lentAfter listAfter digit digitValue spelled bytesOf allDigits strayAt total
     check journalKinds knownIn widthsIn digitsIn fieldPlaceIn highFirst number packed unpacked actionOf sealed frameIn frame startFrame lineKind
     fieldsIn first firstPlace fieldTests lineTests lineRefusal linePlace readLine untilLF hasLF unended lineAt placeAfter nextIn stepsFrom journal
     afterAll refusedOf replayed replayAfter decimalIn decimal spaced said nodeLine nodeLines printed classOf scrubbed touched counted countRefusal
-    verdictCount changes does refused reached verdict line replays example same Holds
+    verdictCount changes does answers refused gives reached verdict line replays example told same Holds
 rows =
     row "write at 0" (does two (Write 0 0 16 0x20)) (refused 5) tt ∷
     row "write at 1" (does two (Write 0 1 16 0x20)) (0 ∷ 0 ∷ 0 ∷ 1 ∷ 1 ∷ 513 ∷ 1 ∷ 530 ∷ 1 ∷ 531 ∷ 16 ∷ 532 ∷ 0x20 ∷ []) tt ∷
@@ -224,28 +277,43 @@ rows =
     (0 ∷ 0 ∷ 0 ∷ 1 ∷ 9 ∷ 2 ∷ 8 ∷ 17 ∷ 9 ∷ 18 ∷ 8 ∷ 258 ∷ 6 ∷ 274 ∷ 6 ∷ []) tt ∷
     row "b compares with what a began with: its own record does not come back" (does odd (Session 0 1 0 0 3))
     (0 ∷ 1 ∷ 0 ∷ 513 ∷ 1 ∷ 530 ∷ 9 ∷ 531 ∷ 16 ∷ 532 ∷ 0x20 ∷ []) tt ∷
-    row "smallest acknowledgement 5 removes 5 and keeps 6" (does five (Purge 0))
+    row "smallest acknowledgement 5 removes 5, once delivered, and keeps 6" (does fiveTold (Purge 0))
     (0 ∷ 1 ∷ 0 ∷ 513 ∷ 1 ∷ 530 ∷ 6 ∷ 531 ∷ 17 ∷ 534 ∷ 0 ∷ 535 ∷ 0 ∷ 536 ∷ 0 ∷ []) tt ∷
-    row "the rows beyond the old held number are untouched" (does (marked five) (Purge 0))
+    row "without a delivery the mark is 0 and a purge removes nothing" (does five (Purge 0)) (0 ∷ 0 ∷ 0 ∷ []) tt ∷
+    row "every acknowledgement 6: mark 5 removes 5 and keeps 6" (does sixTold (Purge 0))
     (0 ∷ 1 ∷ 0 ∷ 513 ∷ 1 ∷ 530 ∷ 6 ∷ 531 ∷ 17 ∷ 534 ∷ 0 ∷ 535 ∷ 0 ∷ 536 ∷ 0 ∷ []) tt ∷
+    row "the rows beyond the old held number are untouched" (does (marked fiveTold) (Purge 0))
+    (0 ∷ 1 ∷ 0 ∷ 513 ∷ 1 ∷ 530 ∷ 6 ∷ 531 ∷ 17 ∷ 534 ∷ 0 ∷ 535 ∷ 0 ∷ 536 ∷ 0 ∷ []) tt ∷
+    row "a delivery: 5 is at the smallest entry and is due, 6 is one above and is not" (does five (Deliver 0)) (0 ∷ 1 ∷ 0 ∷ 4625 ∷ 5 ∷ []) tt ∷
+    row "a second delivery: 5 is at the mark and is not due" (does fiveTold (Deliver 0)) (0 ∷ 0 ∷ 0 ∷ []) tt ∷
+    row "none due, and an empty list" (gives two 0 1) (0 ∷ 0 ∷ 0 ∷ []) tt ∷
+    row "one due: its four words, and the rest of the list stays" (gives five 5 0) (0 ∷ 1 ∷ 0 ∷ 4625 ∷ 5 ∷ 0 ∷ 5 ∷ 16 ∷ 0x20 ∷ 7 ∷ []) tt ∷
+    row "the other node has a mark of its own" (gives five 4 1) (0 ∷ 1 ∷ 0 ∷ 4626 ∷ 5 ∷ 0 ∷ 5 ∷ 16 ∷ 0x20 ∷ []) tt ∷
+    row "by timestamp before origin" (gives mixed 8 0) (0 ∷ 2 ∷ 0 ∷ 4625 ∷ 5 ∷ 1 ∷ 4 ∷ 17 ∷ 0x20 ∷ 0 ∷ 5 ∷ 16 ∷ 0x20 ∷ []) tt ∷
+    row "one timestamp: by origin, not in log order" (gives tied 8 1) (0 ∷ 2 ∷ 0 ∷ 4626 ∷ 5 ∷ 0 ∷ 5 ∷ 16 ∷ 0x20 ∷ 1 ∷ 5 ∷ 17 ∷ 0x20 ∷ []) tt ∷
+    row "one timestamp and one origin: in log order" (gives double 8 1) (0 ∷ 2 ∷ 0 ∷ 4626 ∷ 5 ∷ 0 ∷ 5 ∷ 9 ∷ 0x20 ∷ 0 ∷ 5 ∷ 8 ∷ 0x20 ∷ []) tt ∷
+    row "a list one word short" (gives tied 7 1) (7 ∷ 0 ∷ 0 ∷ replicate 7 7) tt ∷
+    row "a list of three words more" (gives tied 11 1)
+    (0 ∷ 2 ∷ 0 ∷ 4626 ∷ 5 ∷ 0 ∷ 5 ∷ 16 ∷ 0x20 ∷ 1 ∷ 5 ∷ 17 ∷ 0x20 ∷ 7 ∷ 7 ∷ 7 ∷ []) tt ∷
+    row "a delivery of node 2, whatever the list" (gives two 3 2) (3 ∷ 0 ∷ 0 ∷ 7 ∷ 7 ∷ 7 ∷ []) tt ∷
+    row "a delivery on a table that is not sound" (gives (place 0 (17 ∷ []) two) 0 2) (refused 1) tt ∷
     row "rows and entries at or beyond n take no part" (does (marked five) (Session 0 1 9 8 3))
     (0 ∷ 0 ∷ 0 ∷ 1 ∷ 9 ∷ 2 ∷ 8 ∷ 17 ∷ 9 ∷ 18 ∷ 8 ∷ 258 ∷ 6 ∷ 274 ∷ 6 ∷ []) tt ∷
     row "the first purge of document 01's journal removes nothing" (does early (Purge 0)) (0 ∷ 0 ∷ 0 ∷ []) tt ∷
     row "a table that is not sound, whatever the step" (does (place 0 (17 ∷ []) two) (Session 9 9 0 0 4)) (refused 1) tt ∷
     row "purging an empty log" (does two (Purge 0)) (0 ∷ 0 ∷ 0 ∷ []) tt ∷
-    row "all acknowledgements equal: node 0 is told" (does (acked 3 (5 ∷ 5 ∷ 5 ∷ [])) (Purge 0)) (0 ∷ 0 ∷ 0 ∷ []) tt ∷
-    row "the last node lags" (does (acked 3 (5 ∷ 5 ∷ 4 ∷ [])) (Purge 0)) (0 ∷ 0 ∷ 2 ∷ []) tt ∷
-    row "two nodes lag: the lower is told" (does (acked 3 (5 ∷ 4 ∷ 4 ∷ [])) (Purge 0)) (0 ∷ 0 ∷ 1 ∷ []) tt ∷
-    row "the first and the last lag: the first is told" (does (acked 3 (4 ∷ 5 ∷ 4 ∷ [])) (Purge 0)) (0 ∷ 0 ∷ 0 ∷ []) tt ∷
-    row "an entry beyond n lags: it takes no part" (does (acked 2 (5 ∷ 4 ∷ 3 ∷ [])) (Purge 0)) (0 ∷ 0 ∷ 1 ∷ []) tt ∷
-    row "16 nodes, all equal" (does (fresh 16) (Purge 15)) (0 ∷ 0 ∷ 0 ∷ []) tt ∷
-    row "16 nodes, the last lags" (does (acked 16 (9 ∷ 9 ∷ 9 ∷ 9 ∷ 9 ∷ 9 ∷ 9 ∷ 9 ∷ 9 ∷ 9 ∷ 9 ∷ 9 ∷ 9 ∷ 9 ∷ 9 ∷ 8 ∷ [])) (Purge 0)) (0 ∷ 0 ∷ 15 ∷ []) tt ∷
-    row "16 nodes, two lag" (does (acked 16 (9 ∷ 9 ∷ 9 ∷ 9 ∷ 9 ∷ 9 ∷ 9 ∷ 3 ∷ 9 ∷ 9 ∷ 9 ∷ 3 ∷ 9 ∷ 9 ∷ 9 ∷ 8 ∷ [])) (Purge 0)) (0 ∷ 0 ∷ 7 ∷ []) tt ∷
-    row "a purge that removes some tells who lags" (does behind (Purge 0))
-    (0 ∷ 2 ∷ 1 ∷ 513 ∷ 0 ∷ 530 ∷ 0 ∷ 531 ∷ 0 ∷ 532 ∷ 0 ∷ 534 ∷ 0 ∷ 535 ∷ 0 ∷ 536 ∷ 0 ∷ []) tt ∷
-    row "and so does one that removes nothing" (does (reached behind (Purge 0 ∷ Write 0 10 18 0x20 ∷ [])) (Purge 0)) (0 ∷ 0 ∷ 1 ∷ []) tt ∷
-    row "a purge refused with 3 has node 0" (does (acked 2 (5 ∷ 4 ∷ [])) (Purge 2)) (3 ∷ 0 ∷ 0 ∷ []) tt ∷
-    row "a purge refused with 1 has node 0" (does (place 0 (17 ∷ []) (acked 2 (5 ∷ 4 ∷ []))) (Purge 0)) (1 ∷ 0 ∷ 0 ∷ []) tt ∷
+    row "all acknowledgements equal: node 0 is told" (answers (acked 3 (5 ∷ 5 ∷ 5 ∷ [])) (Purge 0)) (0 ∷ 0 ∷ 0 ∷ []) tt ∷
+    row "the last node lags" (answers (acked 3 (5 ∷ 5 ∷ 4 ∷ [])) (Purge 0)) (0 ∷ 0 ∷ 2 ∷ []) tt ∷
+    row "two nodes lag: the lower is told" (answers (acked 3 (5 ∷ 4 ∷ 4 ∷ [])) (Purge 0)) (0 ∷ 0 ∷ 1 ∷ []) tt ∷
+    row "the first and the last lag: the first is told" (answers (acked 3 (4 ∷ 5 ∷ 4 ∷ [])) (Purge 0)) (0 ∷ 0 ∷ 0 ∷ []) tt ∷
+    row "an entry beyond n lags: it takes no part" (answers (acked 2 (5 ∷ 4 ∷ 3 ∷ [])) (Purge 0)) (0 ∷ 0 ∷ 1 ∷ []) tt ∷
+    row "16 nodes, all equal" (answers (fresh 16) (Purge 15)) (0 ∷ 0 ∷ 0 ∷ []) tt ∷
+    row "16 nodes, the last lags" (answers (acked 16 (9 ∷ 9 ∷ 9 ∷ 9 ∷ 9 ∷ 9 ∷ 9 ∷ 9 ∷ 9 ∷ 9 ∷ 9 ∷ 9 ∷ 9 ∷ 9 ∷ 9 ∷ 8 ∷ [])) (Purge 0)) (0 ∷ 0 ∷ 15 ∷ []) tt ∷
+    row "16 nodes, two lag" (answers (acked 16 (9 ∷ 9 ∷ 9 ∷ 9 ∷ 9 ∷ 9 ∷ 9 ∷ 3 ∷ 9 ∷ 9 ∷ 9 ∷ 3 ∷ 9 ∷ 9 ∷ 9 ∷ 8 ∷ [])) (Purge 0)) (0 ∷ 0 ∷ 7 ∷ []) tt ∷
+    row "a purge that removes some tells who lags" (answers behind (Purge 0)) (0 ∷ 2 ∷ 1 ∷ []) tt ∷
+    row "and so does one that removes nothing" (answers (reached behind (Purge 0 ∷ Write 0 10 18 0x20 ∷ [])) (Purge 0)) (0 ∷ 0 ∷ 1 ∷ []) tt ∷
+    row "a purge refused with 3 has node 0" (answers (acked 2 (5 ∷ 4 ∷ [])) (Purge 2)) (3 ∷ 0 ∷ 0 ∷ []) tt ∷
+    row "a purge refused with 1 has node 0" (answers (place 0 (17 ∷ []) (acked 2 (5 ∷ 4 ∷ []))) (Purge 0)) (1 ∷ 0 ∷ 0 ∷ []) tt ∷
     row "0002FE" (line "0002FE") (0 ∷ 0 ∷ 0 ∷ 2 ∷ []) tt ∷
     row "0002FF" (line "0002FF") (13 ∷ 4 ∷ []) tt ∷
     row "0002fe" (line "0002fe") (12 ∷ 4 ∷ []) tt ∷
@@ -284,6 +352,7 @@ rows =
     row "kind 04, four digits" (line "04FC") (11 ∷ 0 ∷ []) tt ∷
     row "kind FF, two digits" (line "FF") (11 ∷ 0 ∷ []) tt ∷
     row "kind 04, five digits" (line "0400F") (18 ∷ 5 ∷ []) tt ∷
+    row "a delivery" (line "0501FA") (0 ∷ 0 ∷ 5 ∷ 1 ∷ []) tt ∷
     row "a start of 1" (line "0001FF") (15 ∷ 0 ∷ []) tt ∷
     row "a start of 1 and a wrong sum" (line "0001FE") (13 ∷ 4 ∷ []) tt ∷
     row "a start of 16" (line "0010F0") (0 ∷ 0 ∷ 0 ∷ 16 ∷ []) tt ∷
@@ -291,6 +360,7 @@ rows =
     row "a write's frame" (frame (Write 0 5 16 16)) (ascii "0100000000050000001010DA\n") tt ∷
     row "a session's frame" (frame (Session 0 1 6 4 3)) (ascii "020001000000060000000403F0\n") tt ∷
     row "a purge's frame" (frame (Purge 0)) (ascii "0300FD\n") tt ∷
+    row "a delivery's frame" (frame (Deliver 0)) (ascii "0500FB\n") tt ∷
     row "verdict 0F" (verdict 0x0f) (0 ∷ 0 ∷ 0 ∷ []) tt ∷
     row "verdict 10" (verdict 0x10) (0 ∷ 1 ∷ 0 ∷ []) tt ∷
     row "verdict 1F" (verdict 0x1f) (0 ∷ 1 ∷ 0 ∷ []) tt ∷
@@ -300,7 +370,9 @@ rows =
     row "verdict 4F" (verdict 0x4f) (0 ∷ 1 ∷ 1 ∷ []) tt ∷
     row "verdict 50" (verdict 0x50) (0 ∷ 0 ∷ 0 ∷ []) tt ∷
     row "document 01's journal, printed" (replays example)
-    (ascii "N 2 STEPS 6 REFUSED 0\n0 S 8 8 K 7 6 L 0\n1 S 8 8 K 7 6 L 1\n") tt ∷
+    (ascii "N 2 STEPS 6 REFUSED 0\n0 S 8 8 K 7 6 L 1\n1 S 8 8 K 7 6 L 1\n") tt ∷
+    row "the same with a delivery before its last line" (replays told)
+    (ascii "N 2 STEPS 7 REFUSED 0\n0 S 8 8 K 7 6 L 0\n1 S 8 8 K 7 6 L 1\n") tt ∷
     row "an empty journal" (replays "") (ascii "BAD 1 15 0\n") tt ∷
     row "bytes without LF" (replays "0002FE") (ascii "BAD 1 14 6\n") tt ∷
     row "a second line without LF" (replays "0002FE\n0300F") (ascii "BAD 2 14 5\n") tt ∷

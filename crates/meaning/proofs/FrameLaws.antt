@@ -11,7 +11,7 @@ use lib.Dec.{leb, ltb, eqb}
 use borrow.Author.Tests.{ltb-true, ltb-false, lt-ltb, le-ltb, le-leb, lt-leb, leb-true, eqb-true, eq-eqb, ne-eqb, not-true, not-false}
 use Rattle.meaning.specs.declared.Line.the-variants.{Begin, Act, Refused}
 use Rattle.meaning.specs.declared.Action.{Action}
-use Rattle.meaning.specs.declared.Action.the-variants.{Write, Session, Purge}
+use Rattle.meaning.specs.declared.Action.the-variants.{Write, Session, Purge, Deliver}
 use Rattle.meaning.specs.declared.Framed.the-variants.{Length, Refused as Unframed}
 use Rattle.meaning.specs.Refusals.{Test, test, testAt, first, firstPlace}
 use Rattle.meaning.specs.Table.{countRight, place}
@@ -209,15 +209,19 @@ unfolding digitsIn
 digits-even ks k = (omega arith, omega arith)
 
 -- a journal's kinds, one by one
-pub kind-cases : (P : ℕ → Type 0) → P 0 → P 1 → P 2 → P 3 → (k : ℕ) → known k ≡ true → P k
+pub kind-cases : (P : ℕ → Type 0) → P 0 → P 1 → P 2 → P 3 → P 5 → (k : ℕ) → known k ≡ true → P k
 unfolding knownIn journalKinds
-kind-cases P a b c d zero h = a
-kind-cases P a b c d (suc zero) h = b
-kind-cases P a b c d (suc (suc zero)) h = c
-kind-cases P a b c d (suc (suc (suc zero))) h = d
-kind-cases P a b c d (suc (suc (suc (suc k)))) h =
-    let n = suc (suc (suc (suc k))) in
-    let f : true ≡ false = cc (h, ne-eqb n 0 (omega arith), ne-eqb n 1 (omega arith), ne-eqb n 2 (omega arith), ne-eqb n 3 (omega arith)) in
+kind-cases P a b c d e zero h = a
+kind-cases P a b c d e (suc zero) h = b
+kind-cases P a b c d e (suc (suc zero)) h = c
+kind-cases P a b c d e (suc (suc (suc zero))) h = d
+kind-cases P a b c d e (suc (suc (suc (suc zero)))) h = absurd (true≢false (sym h))
+kind-cases P a b c d e (suc (suc (suc (suc (suc zero))))) h = e
+kind-cases P a b c d e (suc (suc (suc (suc (suc (suc k)))))) h =
+    let n = suc (suc (suc (suc (suc (suc k))))) in
+    let three = ne-eqb n 3 (omega arith) in
+    let five = ne-eqb n 5 (omega arith) in
+    let f : true ≡ false = cc (h, ne-eqb n 0 (omega arith), ne-eqb n 1 (omega arith), ne-eqb n 2 (omega arith)) in
     absurd (true≢false f)
 
 -- the first character that is no digit: one of the line's, none before it, and it is none; the length where all are digits
@@ -494,6 +498,10 @@ pub length-purge : (p : ℕ) → length (frame (Purge p)) ≡ 7
 unfolding frame frameIn sealed widthsIn journalKinds packed highFirst spelled
 length-purge p = refl
 
+pub length-deliver : (p : ℕ) → length (frame (Deliver p)) ≡ 7
+unfolding frame frameIn sealed widthsIn journalKinds packed highFirst spelled
+length-deliver p = refl
+
 pub length-start : (n : ℕ) → length (startFrame n) ≡ 7
 unfolding startFrame frameIn sealed widthsIn journalKinds packed highFirst spelled
 length-start n = refl
@@ -613,6 +621,7 @@ pub frame-most : (x : Action) → length (frame x) ≤ 27
 frame-most (Write p t b v) = rw (length-write p t b v) (omega arith)
 frame-most (Session a b ca cb o) = rw (length-session a b ca cb o) (omega arith)
 frame-most (Purge p) = rw (length-purge p) (omega arith)
+frame-most (Deliver p) = rw (length-deliver p) (omega arith)
 
 pub value-length : (out : List ℕ) (x : Action) → getD (framedValues (frameReply out x)) 1 0 ≤ 27
 unfolding frameReply

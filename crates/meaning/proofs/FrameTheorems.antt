@@ -11,7 +11,7 @@ use lib.Seq.{take-at}
 use lib.Dec.{leb, ltb, eqb}
 use borrow.Author.Tests.{leb-true, lt-ltb, eqb-true, eqb-false, ne-eqb, not-false}
 use Rattle.meaning.specs.declared.Action.{Action}
-use Rattle.meaning.specs.declared.Action.the-variants.{Write, Session, Purge}
+use Rattle.meaning.specs.declared.Action.the-variants.{Write, Session, Purge, Deliver}
 use Rattle.meaning.specs.declared.Step.{Step}
 use Rattle.meaning.specs.declared.Line.the-variants.{Begin, Act}
 use Rattle.meaning.specs.declared.Framed.the-variants.{Length}
@@ -137,24 +137,28 @@ unfolding widthsIn journalKinds
 fields-long (Write p t b v) = refl
 fields-long (Session a b ca cb o) = refl
 fields-long (Purge p) = refl
+fields-long (Deliver p) = refl
 
 kind-known : (x : Action) → (0 < kindOf x) × (kindOf x < 256) × (known (kindOf x) ≡ true)
 unfolding knownIn journalKinds
 kind-known (Write p t b v) = (omega arith, omega arith, refl)
 kind-known (Session a b ca cb o) = (omega arith, omega arith, refl)
 kind-known (Purge p) = (omega arith, omega arith, refl)
+kind-known (Deliver p) = (omega arith, omega arith, refl)
 
 action-back : (x : Action) → actionOf (kindOf x) (fieldsOf x) ≡ x
 unfolding actionOf
 action-back (Write p t b v) = refl
 action-back (Session a b ca cb o) = refl
 action-back (Purge p) = refl
+action-back (Deliver p) = refl
 
 outcome-back : (x : Action) → eqb (kindOf x) 2 && ltb 3 (getD (fieldsOf x) 4 0) ≡ outcomeAbove x
 unfolding outcomeAbove
 outcome-back (Write p t b v) = refl
 outcome-back (Session a b ca cb o) = refl
 outcome-back (Purge p) = refl
+outcome-back (Deliver p) = refl
 
 step-body : Action → List ℕ
 step-body x = body journalKinds (kindOf x) (fieldsOf x)
@@ -237,7 +241,7 @@ unfolding actionOf unpacked widthsIn journalKinds
 action-there bs =
     kind-cases
     (λ (k : ℕ). (k ≡ 0 → ⊥) → (kindOf (actionOf k (unpacked (widths k) bs)) ≡ k) × (fieldsOf (actionOf k (unpacked (widths k) bs)) ≡ unpacked (widths k) bs))
-    (λ z. absurd (z refl)) (λ z. (refl, refl)) (λ z. (refl, refl)) (λ z. (refl, refl))
+    (λ z. absurd (z refl)) (λ z. (refl, refl)) (λ z. (refl, refl)) (λ z. (refl, refl)) (λ z. (refl, refl))
 
 -- what a line that reads as a step, or as a start, is
 step-read : (line : ℕ) (l : List ℕ) (s : Step) → readLine line l ≡ Act s

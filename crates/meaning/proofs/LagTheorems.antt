@@ -1,14 +1,15 @@
--- Who holds a purge up. Document 02, T-02: the node told is one of the table's, its acknowledgement is what the purge goes by, every lower node's is
--- greater; every record that the purge leaves has a timestamp above that node's acknowledgement, so that node is what holds it; and no refused purge tells one.
+-- Who holds a purge up. Document 02, T-02: the node told is one of the table's, its acknowledgement is what the purge goes by beside the mark, every
+-- lower node's is greater; every record that was delivered here and that the purge leaves has a timestamp above that node's acknowledgement, so that node
+-- is what holds it (T-04: what was not delivered stays all the same); and no refused purge tells one.
 use mathlib.Core.Path.{_≡_, sym, ap, _∙_}
 use mathlib.Core.Bool.{true}
 use mathlib.Core.List.{List}
-use Prim.Native.Nat.{ℕ, suc, _<_}
+use Prim.Native.Nat.{ℕ, suc, _≤_, _<_, min}
 use native.Mathlib.Omega.{arith}
 use lib.ListN.{length, getD}
 use Rattle.meaning.specs.declared.Record.{Record}
 use Rattle.meaning.specs.declared.Action.the-variants.{Purge}
-use Rattle.meaning.specs.Rows.{above}
+use Rattle.meaning.specs.Rows.{least, above}
 use Rattle.meaning.specs.Table.{Node, count, node}
 use Rattle.meaning.specs.Node.{purged}
 use Rattle.meaning.specs.Account.{has}
@@ -37,15 +38,22 @@ module _ (t : List ℕ) (p : ℕ) (k : refusal t (Purge p) ≡ 0) where
       let below = leastAt-below (node t p .acks) some in
       omega arith
 
-  -- what the purge goes by is that node's acknowledgement
-  pub lagging-limit : entry (node t p .acks) (lagging t p) ≡ limit t p
-  unfolding lagging limit
-  lagging-limit = leastAt-entry (node t p .acks) some
+  lagging-least : entry (node t p .acks) (lagging t p) ≡ least (node t p .acks)
+  unfolding lagging
+  lagging-least = leastAt-entry (node t p .acks) some
+
+  -- what the purge goes by is that node's acknowledgement, or the mark where that is smaller
+  pub lagging-limit : limit t p ≡ min (entry (node t p .acks) (lagging t p)) (node t p .mark)
+  unfolding limit
+  lagging-limit = ap (λ (k : ℕ). min k (node t p .mark)) (sym lagging-least)
 
   -- and every lower node's is greater
-  pub lagging-first : (q : ℕ) → q < lagging t p → limit t p < entry (node t p .acks) q
-  unfolding lagging limit
-  lagging-first q h = leastAt-first (node t p .acks) q h
+  pub lagging-first : (q : ℕ) → q < lagging t p → entry (node t p .acks) (lagging t p) < entry (node t p .acks) q
+  unfolding lagging
+  lagging-first q h =
+      let first = leastAt-first (node t p .acks) q h in
+      let is = lagging-least in
+      omega arith
 
   left : node (after t (Purge p)) p ≡ purged (limit t p) (node t p)
   unfolding acted
@@ -63,18 +71,26 @@ module _ (t : List ℕ) (p : ℕ) (k : refusal t (Purge p) ≡ 0) where
   unfolding purged
   log-left = ap (λ (x : Node). x .log) left
 
-  -- what is still held is above the acknowledgement of the node told, as it stood and as it stands
-  pub held-above : (r : Record) → has r (node (after t (Purge p)) p .log) ≡ true → entry (node t p .acks) (lagging t p) < r .timestamp
-  held-above r h =
+  -- and no mark
+  pub purge-mark : node (after t (Purge p)) p .mark ≡ node t p .mark
+  unfolding purged
+  purge-mark = ap (λ (x : Node). x .mark) left
+
+  -- what was delivered and is still held is above the acknowledgement of the node told, as it stood and as it stands
+  pub held-above : (r : Record) → has r (node (after t (Purge p)) p .log) ≡ true → r .timestamp ≤ node t p .mark
+      → entry (node t p .acks) (lagging t p) < r .timestamp
+  held-above r h delivered =
       let e = lagging-limit in
       let above = has-above (limit t p) (node t p .log) r (sym (ap (has r) log-left) ∙ h) in
       omega arith
 
   pub held-by-lagging :
-      (r : Record) → has r (node (after t (Purge p)) p .log) ≡ true → entry (node (after t (Purge p)) p .acks) (lagging t p) < r .timestamp
-  held-by-lagging r h =
+      (r : Record) → has r (node (after t (Purge p)) p .log) ≡ true → r .timestamp ≤ node (after t (Purge p)) p .mark
+      → entry (node (after t (Purge p)) p .acks) (lagging t p) < r .timestamp
+  held-by-lagging r h delivered =
       let e = ap (λ (row : List ℕ). entry row (lagging t p)) purge-acks in
-      let above = held-above r h in
+      let m = purge-mark in
+      let above = held-above r h (omega arith) in
       omega arith
 
   -- an accepted purge tells that node, whatever it removed

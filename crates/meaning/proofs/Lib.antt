@@ -29,3 +29,8 @@ pub mod FaultTheorems
 pub mod LagTheorems
 pub mod WideLaws
 pub mod Numbers
+pub mod OrderLaws
+pub mod LentLaws
+pub mod OrderNodes
+pub mod OrderTable
+pub mod Order

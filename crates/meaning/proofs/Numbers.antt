@@ -5,9 +5,9 @@ use mathlib.Core.List.{List}
 use Prim.Native.Nat.{ℕ, zero, suc, _<_}
 use lib.ListN.{getD}
 use Rattle.meaning.specs.declared.Action.{Action}
-use Rattle.meaning.specs.declared.Action.the-variants.{Write, Session, Purge}
+use Rattle.meaning.specs.declared.Action.the-variants.{Write, Session, Purge, Deliver}
 use Rattle.meaning.specs.Table.{Node, count, node, putNode, Sound, Shaped}
-use Rattle.meaning.specs.Node.{wrote, purged}
+use Rattle.meaning.specs.Node.{wrote, purged, delivered}
 use Rattle.meaning.specs.Steps.{refusals, refusal, limit, acted, after}
 use Rattle.meaning.specs.Frames.{lineTests, lineRefusal}
 use Rattle.meaning.proofs.PieceLaws.{Apart}
@@ -19,8 +19,10 @@ use Rattle.meaning.proofs.StepLaws.{
   may-write,
   may-meet,
   may-purge,
+  may-deliver,
   write-shaped,
   purge-shaped,
+  deliver-shaped,
   sideA,
   sideB,
   sideA-shaped,
@@ -36,7 +38,7 @@ pub refusal-listed : (t : List ℕ) (x : Action) → listed (refusal t x) (refus
 unfolding refusal
 refusal-listed t x = first-listed (refusals t x)
 
--- A word that stands in no row, held number or log of a node below n
+-- A word that stands in no row, held number, log or mark of a node below n
 pub Outside : ℕ → ℕ → Type 0
 Outside n i = (p : ℕ) → p < n → Apart i 1 (regions n p)
 
@@ -60,6 +62,9 @@ acted-outside t (Session a b ca cb o) k i out =
 acted-outside t (Purge p) k i out =
     let m = may-purge t p k in
     put-outside t (m .isSound) p (m .here) (purged (limit t p) (node t p)) (purge-shaped t p m) i out
+acted-outside t (Deliver p) k i out =
+    let m = may-deliver t p k in
+    put-outside t (m .isSound) p (m .here) (delivered (node t p)) (deliver-shaped t p m) i out
 
 -- "Rows and entries at or beyond n take no part and are never changed by a step."
 pub after-outside : (t : List ℕ) (x : Action) (i : ℕ) → Outside (count t) i → getD (after t x) i 0 ≡ getD t i 0

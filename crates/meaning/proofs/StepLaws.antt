@@ -11,7 +11,7 @@ use lib.ListN.{length, getD, take, length-set, length-append, length-replicate, 
 use lib.Dec.{leb, ltb}
 use Rattle.meaning.specs.declared.Record.{Record}
 use Rattle.meaning.specs.declared.Action.{Action}
-use Rattle.meaning.specs.declared.Action.the-variants.{Write, Session, Purge}
+use Rattle.meaning.specs.declared.Action.the-variants.{Write, Session, Purge, Deliver}
 use Rattle.meaning.specs.declared.Reply.the-variants.{Refused}
 use Rattle.meaning.specs.Rows.{all, newer, above, records}
 use Rattle.meaning.specs.Refusals.{first}
@@ -23,9 +23,11 @@ use Rattle.meaning.specs.Table.{
   countAt,
   heldAt,
   logAt,
+  markAt,
   part,
   count,
   held,
+  mark,
   node,
   putNode,
   fresh,
@@ -34,20 +36,11 @@ use Rattle.meaning.specs.Table.{
   Sound,
   Shaped,
 }
-use Rattle.meaning.specs.Node.{own, wrote, opened, sent, finished, ended, purged}
+use Rattle.meaning.specs.Node.{own, wrote, opened, sent, finished, ended, purged, delivered}
 use Rattle.meaning.specs.Steps.{finishesA, finishesB, overfull, refusals, refusal, limit, acted, reported, reply, after}
 use Rattle.meaning.proofs.RowLaws.{all-append, all-keep, length-above, and-both, length-raise, length-records, records-take}
 use Rattle.meaning.proofs.RefusalLaws.{numbered, testOf, first-at}
-use Rattle.meaning.proofs.TableLaws.{
-  sound-facts,
-  facts-sound,
-  sound-put,
-  node-shaped,
-  node-same,
-  node-other,
-  put-count,
-  held-log,
-}
+use Rattle.meaning.proofs.TableLaws.{sound-facts, facts-sound, sound-put, node-shaped, node-same, node-other, put-count, held-log}
 
 pub or-left : (a b : Bool) → (a || b) ≡ false → a ≡ false
 or-left true b h = h
@@ -81,11 +74,17 @@ pub record MayPurge (t : List ℕ) (p : ℕ) : Type 0 where
   pub isSound : Sound t
   pub here : p < count t
 
+-- an accepted delivery
+pub record MayDeliver (t : List ℕ) (p : ℕ) : Type 0 where
+  pub isSound : Sound t
+  pub here : p < count t
+
 pub refusals-numbered : (t : List ℕ) (x : Action) → numbered (refusals t x) ≡ true
 unfolding refusals numbered
 refusals-numbered t (Write p c b v) = refl
 refusals-numbered t (Session a b ca cb o) = refl
 refusals-numbered t (Purge p) = refl
+refusals-numbered t (Deliver p) = refl
 
 -- where a step is accepted, each of its tests fails: found by its number, so that a row more moves no other
 passed : (t : List ℕ) (x : Action) → refusal t x ≡ 0 → (k : ℕ) → testOf k (refusals t x) ≡ false
@@ -127,6 +126,12 @@ may-purge t p h =
     let fails = passed t (Purge p) h in
     record { isSound = sound-facts t (not-false (sound t) (fails 1)); here = leb-false (count t) p (fails 3) }
 
+pub may-deliver : (t : List ℕ) (p : ℕ) → refusal t (Deliver p) ≡ 0 → MayDeliver t p
+unfolding refusals testOf
+may-deliver t p h =
+    let fails = passed t (Deliver p) h in
+    record { isSound = sound-facts t (not-false (sound t) (fails 1)); here = leb-false (count t) p (fails 3) }
+
 pub after-accepted : (t : List ℕ) (x : Action) → refusal t x ≡ 0 → after t x ≡ acted t x
 unfolding after
 after-accepted t x h = rw h
@@ -159,6 +164,10 @@ module _ (n : ℕ) (x : Node) (fits : Shaped n x) where
       let s = fits .logShort in
       record { summaryLong = fits .summaryLong; acksLong = fits .acksLong; logShort = omega arith }
 
+  pub delivered-shaped : Shaped n (delivered x)
+  unfolding delivered
+  delivered-shaped = record { summaryLong = fits .summaryLong; acksLong = fits .acksLong; logShort = fits .logShort }
+
   pub ended-shaped : (y : Node) → Shaped n y → (f : Bool) → overfull f x y ≡ false → Shaped n (ended f x y)
   unfolding finished
   ended-shaped y fits′ true h =
@@ -187,6 +196,10 @@ pub purged-right : (n limit : ℕ) (x : Node) → all (recordSound n) (x .log) �
 unfolding purged above
 purged-right n limit x h = all-keep (recordSound n) (λ (r : Record). not (leb (r .timestamp) limit)) (x .log) h
 
+pub delivered-right : (n : ℕ) (x : Node) → all (recordSound n) (x .log) ≡ true → all (recordSound n) (delivered x .log) ≡ true
+unfolding delivered
+delivered-right n x h = h
+
 pub ended-right :
     (n : ℕ) (x y : Node) (f : Bool) → all (recordSound n) (x .log) ≡ true → all (recordSound n) (y .log) ≡ true → all (recordSound n) (ended f x y .log) ≡ true
 unfolding finished newer above
@@ -200,6 +213,7 @@ abbrev pub verdictOf : Action → ℕ
 verdictOf (Write p t b v) = v
 verdictOf (Session a b ca cb o) = 0
 verdictOf (Purge p) = 0
+verdictOf (Deliver p) = 0
 
 -- The two sides of a session, and the facts about them that an accepted one has
 abbrev pub sideA : List ℕ → ℕ → ℕ → ℕ → ℕ → ℕ → Node
@@ -272,12 +286,15 @@ module _ (t : List ℕ) (a b ca cb o : ℕ) (m : MayMeet t a b ca cb o) where
   pub session-other : (q : ℕ) → q < count t → (q ≡ a → ⊥) → (q ≡ b → ⊥) → node (acted t (Session a b ca cb o)) q ≡ node t q
   session-other q h na nb = away q h nb ∙ node-other t s a (m .hereA) (sideA t a b ca cb o) sideA-shaped q h na
 
--- what a write and a purge leave fits the table
+-- what a write, a purge and a delivery leave fits the table
 pub write-shaped : (t : List ℕ) (p c b v : ℕ) → MayWrite t p c → Shaped (count t) (wrote p c b v (node t p))
 write-shaped t p c b v m = wrote-shaped (count t) (node t p) (node-shaped t (m .isSound) p (m .here)) p c b v (m .room)
 
 pub purge-shaped : (t : List ℕ) (p : ℕ) → MayPurge t p → Shaped (count t) (purged (limit t p) (node t p))
 purge-shaped t p m = purged-shaped (count t) (node t p) (node-shaped t (m .isSound) p (m .here)) (limit t p)
+
+pub deliver-shaped : (t : List ℕ) (p : ℕ) → MayDeliver t p → Shaped (count t) (delivered (node t p))
+deliver-shaped t p m = delivered-shaped (count t) (node t p) (node-shaped t (m .isSound) p (m .here))
 
 -- a sound table stays sound, with its count, under every accepted action
 pub acted-sound : (t : List ℕ) (x : Action) → verdictOf x ≤ 255 → refusal t x ≡ 0 → Sound (acted t x)
@@ -292,6 +309,10 @@ acted-sound t (Purge p) hv k =
     let m = may-purge t p k in
     let s = m .isSound in
     sound-put t s p (m .here) (purged (limit t p) (node t p)) (purge-shaped t p m) (purged-right (count t) (limit t p) (node t p) (s .right p (m .here)))
+acted-sound t (Deliver p) hv k =
+    let m = may-deliver t p k in
+    let s = m .isSound in
+    sound-put t s p (m .here) (delivered (node t p)) (deliver-shaped t p m) (delivered-right (count t) (node t p) (s .right p (m .here)))
 
 pub acted-count : (t : List ℕ) (x : Action) → refusal t x ≡ 0 → count (acted t x) ≡ count t
 unfolding acted
@@ -302,6 +323,9 @@ acted-count t (Session a b ca cb o) k = session-count t a b ca cb o (may-meet t 
 acted-count t (Purge p) k =
     let m = may-purge t p k in
     put-count t (m .isSound) p (m .here) (purged (limit t p) (node t p)) (purge-shaped t p m)
+acted-count t (Deliver p) k =
+    let m = may-deliver t p k in
+    put-count t (m .isSound) p (m .here) (delivered (node t p)) (deliver-shaped t p m)
 
 -- and under every step at all
 after-sound-at : (t : List ℕ) (x : Action) → verdictOf x ≤ 255 → Sound t → (k : ℕ) → refusal t x ≡ k → Sound (after t x)
@@ -340,6 +364,10 @@ fresh-held n p h = fresh-word n (heldAt p) (omega arith) (omega arith)
 pub fresh-log : (n p : ℕ) → p < nodesMost → node (fresh n) p .log ≡ []
 unfolding node records
 fresh-log n p h = rw (fresh-held n p h)
+
+pub fresh-mark : (n p : ℕ) → p < nodesMost → node (fresh n) p .mark ≡ 0
+unfolding node mark
+fresh-mark n p h = fresh-word n (markAt p) (omega arith) (omega arith)
 
 pub fresh-sound : (n : ℕ) → 2 ≤ n → n ≤ nodesMost → Sound (fresh n)
 unfolding all
@@ -388,6 +416,15 @@ module _ (t : List ℕ) (s : Sound t) (p : ℕ) where
   pub purge-is-0 : p < count t → refusal t (Purge p) ≡ 0
   unfolding refusal refusals first
   purge-is-0 h = rw (facts-sound t s, lt-leb (count t) p h)
+
+module _ (t : List ℕ) (s : Sound t) (p : ℕ) where
+  pub deliver-is-3 : count t ≤ p → refusal t (Deliver p) ≡ 3
+  unfolding refusal refusals first
+  deliver-is-3 h = rw (facts-sound t s, le-leb (count t) p h)
+
+  pub deliver-is-0 : p < count t → refusal t (Deliver p) ≡ 0
+  unfolding refusal refusals first
+  deliver-is-0 h = rw (facts-sound t s, lt-leb (count t) p h)
 
 module _ (t : List ℕ) (s : Sound t) (a b ca cb o : ℕ) where
   pub session-is-2 : 3 < o → refusal t (Session a b ca cb o) ≡ 2
@@ -469,6 +506,7 @@ unfolding refusal refusals first
 unsound-refusal t (Write p c b v) h = rw h
 unsound-refusal t (Session a b ca cb o) h = rw h
 unsound-refusal t (Purge p) h = rw h
+unsound-refusal t (Deliver p) h = rw h
 
 -- A log that has grown still begins with what it held
 pub log-begins :

@@ -21,9 +21,11 @@ use Rattle.meaning.specs.Table.{
   acksAt,
   heldAt,
   logAt,
+  markAt,
   part,
   count,
   held,
+  mark,
   node,
   Piece,
   piece,
@@ -173,32 +175,41 @@ heldOf p = region (heldAt p) 1
 abbrev logOf : ℕ → Region
 logOf p = region (logAt p) (4 * logMost)
 
-abbrev pub regions : ℕ → ℕ → List Region
-regions n p = summaryOf n p ∷ acksOf n p ∷ heldOf p ∷ logOf p ∷ []
+abbrev markOf : ℕ → Region
+markOf p = region (markAt p) 1
 
--- each of them is away from what is away from all four
+abbrev pub regions : ℕ → ℕ → List Region
+regions n p = summaryOf n p ∷ acksOf n p ∷ heldOf p ∷ logOf p ∷ markOf p ∷ []
+
+-- each of them is away from what is away from all five
 pub apart-node :
     (n p a k : ℕ) →
     (a < summaryAt p + n → summaryAt p < a + k → ⊥) →
     (a < acksAt p + n → acksAt p < a + k → ⊥) →
     (a < heldAt p + 1 → heldAt p < a + k → ⊥) →
     (a < logAt p + 4 * logMost → logAt p < a + k → ⊥) →
+    (a < markAt p + 1 → markAt p < a + k → ⊥) →
     Apart a k (regions n p)
-apart-node n p a k h₁ h₂ h₃ h₄ = Apart·cons h₁ (Apart·cons h₂ (Apart·cons h₃ (Apart·cons h₄ Apart·nil)))
+apart-node n p a k h₁ h₂ h₃ h₄ h₅ = Apart·cons h₁ (Apart·cons h₂ (Apart·cons h₃ (Apart·cons h₄ (Apart·cons h₅ Apart·nil))))
 
 inside-node : (n p m : ℕ) → n ≤ nodesMost → p < nodesMost → m ≡ tableWords → Inside m (regions n p)
 inside-node n p m hn hp e =
     Inside·cons {r = summaryOf n p} (omega arith)
     (Inside·cons {r = acksOf n p} (omega arith)
-    (Inside·cons {r = heldOf p} (omega arith) (Inside·cons {r = logOf p} (omega arith) Inside·nil)))
+    (Inside·cons {r = heldOf p} (omega arith)
+    (Inside·cons {r = logOf p} (omega arith) (Inside·cons {r = markOf p} (omega arith) Inside·nil))))
 
 disjoint-node : (n p : ℕ) → n ≤ nodesMost → p < nodesMost → Disjoint (regions n p)
 disjoint-node n p hn hp =
+    let from-mark : (a k : ℕ) → (a < markAt p + 1 → markAt p < a + k → ⊥) → Apart a k (markOf p ∷ []) = λ a k h. Apart·cons {r = markOf p} h Apart·nil in
     Disjoint·cons {r = summaryOf n p}
-    (Apart·cons {r = acksOf n p} (omega arith) (Apart·cons {r = heldOf p} (omega arith) (Apart·cons {r = logOf p} (omega arith) Apart·nil)))
-    (Disjoint·cons {r = acksOf n p} (Apart·cons {r = heldOf p} (omega arith) (Apart·cons {r = logOf p} (omega arith) Apart·nil))
-    (Disjoint·cons {r = heldOf p} (Apart·cons {r = logOf p} (omega arith) Apart·nil)
-    (Disjoint·cons {r = logOf p} Apart·nil Disjoint·nil)))
+    (Apart·cons {r = acksOf n p} (omega arith)
+    (Apart·cons {r = heldOf p} (omega arith) (Apart·cons {r = logOf p} (omega arith) (from-mark (summaryAt p) n (omega arith)))))
+    (Disjoint·cons {r = acksOf n p}
+    (Apart·cons {r = heldOf p} (omega arith) (Apart·cons {r = logOf p} (omega arith) (from-mark (acksAt p) n (omega arith))))
+    (Disjoint·cons {r = heldOf p} (Apart·cons {r = logOf p} (omega arith) (from-mark (heldAt p) 1 (omega arith)))
+    (Disjoint·cons {r = logOf p} (from-mark (logAt p) (4 * logMost) (omega arith))
+    (Disjoint·cons {r = markOf p} Apart·nil Disjoint·nil))))
 
 -- A node put into a sound table, one that fits it
 module _ (t : List ℕ) (s : Sound t) (p : ℕ) (h : p < count t) (x : Node) (fits : Shaped (count t) x) where
@@ -211,7 +222,8 @@ module _ (t : List ℕ) (s : Sound t) (p : ℕ) (h : p < count t) (x : Node) (fi
       Fills·cons {x = piece (summaryAt p) (x .summary)} {r = summaryOf (count t) p} refl (omega (arith, fits .summaryLong))
       (Fills·cons {x = piece (acksAt p) (x .acks)} {r = acksOf (count t) p} refl (omega (arith, fits .acksLong))
       (Fills·cons {x = piece (heldAt p) (length (x .log) ∷ [])} {r = heldOf p} refl (omega arith)
-      (Fills·cons {x = piece (logAt p) (logWords p x t)} {r = logOf p} refl (length-logWords p x t (fits .logShort) (s .room p h)) Fills·nil)))
+      (Fills·cons {x = piece (logAt p) (logWords p x t)} {r = logOf p} refl (length-logWords p x t (fits .logShort) (s .room p h))
+      (Fills·cons {x = piece (markAt p) (x .mark ∷ [])} {r = markOf p} refl (omega arith) Fills·nil))))
 
   inside : Inside (length t) (regions (count t) p)
   inside = inside-node (count t) p (length t) (s .high) here (s .long)
@@ -236,13 +248,21 @@ module _ (t : List ℕ) (s : Sound t) (p : ℕ) (h : p < count t) (x : Node) (fi
 
   pub put-count : count (putNode p x t) ≡ count t
   unfolding count
-  put-count = put-word-away countAt (apart-node (count t) p countAt 1 (omega arith) (omega arith) (omega arith) (omega arith))
+  put-count = put-word-away countAt (apart-node (count t) p countAt 1 (omega arith) (omega arith) (omega arith) (omega arith) (omega arith))
 
   pub put-held : held (putNode p x t) p ≡ length (x .log)
   unfolding held pieces
   put-held =
       sym (getD-part (heldAt p) 1 (putNode p x t) 0 (heldAt p) (omega arith) (omega arith)) ∙
       ap (λ (l : List ℕ). getD l 0 0) (put-back (piece (heldAt p) (length (x .log) ∷ [])) (List·Memᴰ·tail (List·Memᴰ·tail (List·Memᴰ·head refl))))
+
+  pub put-mark : mark (putNode p x t) p ≡ x .mark
+  unfolding mark pieces
+  put-mark =
+      sym (getD-part (markAt p) 1 (putNode p x t) 0 (markAt p) (omega arith) (omega arith)) ∙
+      ap (λ (l : List ℕ). getD l 0 0)
+      (put-back (piece (markAt p) (x .mark ∷ []))
+      (List·Memᴰ·tail (List·Memᴰ·tail (List·Memᴰ·tail (List·Memᴰ·tail (List·Memᴰ·head refl))))))
 
   put-log : part (logAt p) (length (logWords p x t)) (putNode p x t) ≡ logWords p x t
   unfolding pieces
@@ -278,16 +298,24 @@ module _ (t : List ℕ) (s : Sound t) (p : ℕ) (h : p < count t) (x : Node) (fi
       records-agree (length (x .log)) (part (logAt p) (4 * logMost) (putNode p x t)) (words (x .log) ++ []) put-records ∙
       records-words (x .log) []
       in
-      λ i. record { summary = e i; acks = k i; log = g i }
+      let m = put-mark in
+      λ i. record { summary = e i; acks = k i; log = g i; mark = m i }
 
-  -- another node's part k words from a on, given that it stands apart from each piece, and its held number
+  -- another node's part k words from a on, given that it stands apart from each piece, its held number and its mark
   module _ (q : ℕ) (j : q < count t) (other : q ≡ p → ⊥) where
     pub put-held-other : held (putNode p x t) q ≡ held t q
     unfolding held
     put-held-other =
         let hi = s .high in
         put-word-away (heldAt q)
-        (apart-node (count t) p (heldAt q) 1 (λ u v. omega arith) (λ u v. omega arith) (λ u v. other (omega arith)) (λ u v. omega arith))
+        (apart-node (count t) p (heldAt q) 1 (λ u v. omega arith) (λ u v. omega arith) (λ u v. other (omega arith)) (λ u v. omega arith) (λ u v. omega arith))
+
+    pub put-mark-other : mark (putNode p x t) q ≡ mark t q
+    unfolding mark
+    put-mark-other =
+        let hi = s .high in
+        put-word-away (markAt q)
+        (apart-node (count t) p (markAt q) 1 (λ u v. omega arith) (λ u v. omega arith) (λ u v. omega arith) (λ u v. omega arith) (λ u v. other (omega arith)))
 
     -- another node is as it was
     pub node-other : node (putNode p x t) q ≡ node t q
@@ -297,20 +325,24 @@ module _ (t : List ℕ) (s : Sound t) (p : ℕ) (h : p < count t) (x : Node) (fi
         let e : part (summaryAt q) (count (putNode p x t)) (putNode p x t) ≡ part (summaryAt q) (count t) t =
         rw put-count
         (put-part-away (summaryAt q) (count t) (omega arith)
-        (apart-node (count t) p (summaryAt q) (count t) (λ u v. other (omega arith)) (λ u v. omega arith) (λ u v. omega arith) (λ u v. omega arith)))
+        (apart-node (count t) p (summaryAt q) (count t) (λ u v. other (omega arith)) (λ u v. omega arith) (λ u v. omega arith) (λ u v. omega arith)
+        (λ u v. omega arith)))
         in
         let k : part (acksAt q) (count (putNode p x t)) (putNode p x t) ≡ part (acksAt q) (count t) t =
         rw put-count
         (put-part-away (acksAt q) (count t) (omega arith)
-        (apart-node (count t) p (acksAt q) (count t) (λ u v. omega arith) (λ u v. other (omega arith)) (λ u v. omega arith) (λ u v. omega arith)))
+        (apart-node (count t) p (acksAt q) (count t) (λ u v. omega arith) (λ u v. other (omega arith)) (λ u v. omega arith) (λ u v. omega arith)
+        (λ u v. omega arith)))
         in
         let g : records (held (putNode p x t) q) (part (logAt q) (4 * logMost) (putNode p x t)) ≡ records (held t q) (part (logAt q) (4 * logMost) t) =
         rw put-held-other
         (ap (records (held t q))
         (put-part-away (logAt q) (4 * logMost) (omega arith)
-        (apart-node (count t) p (logAt q) (4 * logMost) (λ u v. omega arith) (λ u v. omega arith) (λ u v. omega arith) (λ u v. other (omega arith)))))
+        (apart-node (count t) p (logAt q) (4 * logMost) (λ u v. omega arith) (λ u v. omega arith) (λ u v. omega arith) (λ u v. other (omega arith))
+        (λ u v. omega arith))))
         in
-        λ i. record { summary = e i; acks = k i; log = g i }
+        let m = put-mark-other in
+        λ i. record { summary = e i; acks = k i; log = g i; mark = m i }
 
 -- a sound table stays sound when a node is put that fits it and whose records are right
 pub sound-put :

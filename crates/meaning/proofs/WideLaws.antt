@@ -9,7 +9,7 @@ use mir.Val.{Fits}
 use lib.ListN.{take}
 use borrow.Author.Tests.{lt-ltb}
 use Rattle.meaning.specs.declared.Action.{Action}
-use Rattle.meaning.specs.declared.Action.the-variants.{Write, Session, Purge}
+use Rattle.meaning.specs.declared.Action.the-variants.{Write, Session, Purge, Deliver}
 use Rattle.meaning.specs.declared.Line.the-variants.{Act}
 use Rattle.meaning.specs.declared.Framed.the-variants.{Length}
 use Rattle.meaning.specs.Steps.{outcomeAbove}
@@ -21,6 +21,7 @@ abbrev pub Typed : Action → Type 0
 Typed (Write p t b v) = Fits w8 p × Fits w32 t × Fits w32 b × Fits w8 v
 Typed (Session a b ca cb o) = Fits w8 a × Fits w8 b × Fits w32 ca × Fits w32 cb × Fits w8 o
 Typed (Purge p) = Fits w8 p
+Typed (Deliver p) = Fits w8 p
 
 byte : (n : ℕ) → Fits w8 n → n < 256
 byte n h = omega (arith, h .fits)
@@ -46,6 +47,7 @@ typed-wide (Session a b ca cb o) h =
       lt-ltb o 256 (byte o (h .4)),
     )
 typed-wide (Purge p) h = cc (lt-ltb p 256 (byte p h))
+typed-wide (Deliver p) h = cc (lt-ltb p 256 (byte p h))
 
 -- so of such actions: "reading that frame gives the step back", no two have one frame, and what the writer wrote reads as the step
 pub typed-reads : (x : Action) (line : ℕ) (l : List ℕ) → Typed x → outcomeAbove x ≡ false → frame x ≡ l ++ (10 ∷ [])

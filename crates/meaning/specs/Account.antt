@@ -5,7 +5,7 @@ use Prim.Native.Nat.{ℕ, zero, suc}
 use lib.Dec.{eqb}
 use Rattle.meaning.specs.declared.Record.{Record}
 use Rattle.meaning.specs.declared.Action.{Action}
-use Rattle.meaning.specs.declared.Action.the-variants.{Write, Session, Purge}
+use Rattle.meaning.specs.declared.Action.the-variants.{Write, Session, Purge, Deliver}
 use Rattle.meaning.specs.declared.Step.{Step}
 use Rattle.meaning.specs.Rows.{keep}
 use Rattle.meaning.specs.Table.{fresh}
@@ -50,6 +50,7 @@ noted (Session a b ca cb o) x =
       of = gainsIf (finishesB o) b (lacking (x .of b) (x .of a)) (gainsIf (finishesA o) a (lacking (x .of a) (x .of b)) (x .of));
     }
 noted (Purge p) x = x
+noted (Deliver p) x = x
 
 -- The table and the account beside it, "leaving out the refused" steps
 pub record Run : Type 0 where
@@ -82,5 +83,8 @@ ran x [] = x
 ran x (e ∷ es) = ran (befell x e) es
 
 -- "Start from a fresh table of 2 to 16 nodes and take any list of steps"
+abbrev pub begun : ℕ → Run
+begun n = record { table = fresh n; account = nothing }
+
 unfoldable pub run : ℕ → List Event → Run
-run n es = ran (record { table = fresh n; account = nothing }) es
+run n es = ran (begun n) es

@@ -1,4 +1,4 @@
--- Frames: digits, the check, the frame of a step and of a start, and what a line means. Document 01, "Frames and journals".
+-- Frames: digits, the check, the frame of a step and of a start, and what a line means. Document 01, "Frames and journals"; document 02, T-04.
 use mathlib.Core.Path.{_≡_}
 use mathlib.Core.Bool.{Bool, true, false, not, _&&_, _||_, cond}
 use mathlib.Core.List.{List, [], _∷_, _++_}
@@ -6,7 +6,7 @@ use Prim.Native.Nat.{ℕ, zero, suc, _+_, _-_, _*_, _/_, _%_, _^_, min}
 use lib.ListN.{length, getD, take, drop}
 use lib.Dec.{leb, ltb, eqb}
 use Rattle.meaning.specs.declared.Action.{Action}
-use Rattle.meaning.specs.declared.Action.the-variants.{Write, Session, Purge}
+use Rattle.meaning.specs.declared.Action.the-variants.{Write, Session, Purge, Deliver}
 use Rattle.meaning.specs.declared.Fault.{Fault}
 use Rattle.meaning.specs.declared.Line.{Line}
 use Rattle.meaning.specs.declared.Line.the-variants.{Begin, Act, Refused}
@@ -59,10 +59,10 @@ pub record Kind : Type 0 where
 abbrev pub row : ℕ → List ℕ → Kind
 row k ws = record { kind = k; fields = ws }
 
--- The kinds of a journal's lines: 00 start, 01 write, 02 session, 03 purge. A row is found by its number, so their order is free, and a reader
--- of other lines has rows of its own.
+-- The kinds of a journal's lines: 00 start, 01 write, 02 session, 03 purge, 05 delivery. A row is found by its number, so their order is free,
+-- and a reader of other lines has rows of its own.
 unfoldable pub journalKinds : List Kind
-journalKinds = row 0 (1 ∷ []) ∷ row 1 (1 ∷ 4 ∷ 4 ∷ 1 ∷ []) ∷ row 2 (1 ∷ 1 ∷ 4 ∷ 4 ∷ 1 ∷ []) ∷ row 3 (1 ∷ []) ∷ []
+journalKinds = row 0 (1 ∷ []) ∷ row 1 (1 ∷ 4 ∷ 4 ∷ 1 ∷ []) ∷ row 2 (1 ∷ 1 ∷ 4 ∷ 4 ∷ 1 ∷ []) ∷ row 3 (1 ∷ []) ∷ row 5 (1 ∷ []) ∷ []
 
 -- whether a kind is one of these, and the widths of its fields
 unfoldable pub knownIn : List Kind → ℕ → Bool
@@ -121,16 +121,19 @@ abbrev pub kindOf : Action → ℕ
 kindOf (Write p t b v) = 1
 kindOf (Session a b ca cb o) = 2
 kindOf (Purge p) = 3
+kindOf (Deliver p) = 5
 
 abbrev pub fieldsOf : Action → List ℕ
 fieldsOf (Write p t b v) = p ∷ t ∷ b ∷ v ∷ []
 fieldsOf (Session a b ca cb o) = a ∷ b ∷ ca ∷ cb ∷ o ∷ []
 fieldsOf (Purge p) = p ∷ []
+fieldsOf (Deliver p) = p ∷ []
 
 unfoldable pub actionOf : ℕ → List ℕ → Action
 actionOf kind f =
     cond (eqb kind 1) (Write (getD f 0 0) (getD f 1 0) (getD f 2 0) (getD f 3 0))
-    (cond (eqb kind 2) (Session (getD f 0 0) (getD f 1 0) (getD f 2 0) (getD f 3 0) (getD f 4 0)) (Purge (getD f 0 0)))
+    (cond (eqb kind 2) (Session (getD f 0 0) (getD f 1 0) (getD f 2 0) (getD f 3 0) (getD f 4 0))
+    (cond (eqb kind 5) (Deliver (getD f 0 0)) (Purge (getD f 0 0))))
 
 -- "A frame is one line of uppercase hexadecimal, two digits a byte, ended by LF (byte 0A)." Its bytes, the check last
 unfoldable pub sealed : List ℕ → List ℕ

@@ -8,3 +8,4 @@ pub mod Journals
 pub mod Lines
 pub mod Verdicts
 pub mod Account
+pub mod Order

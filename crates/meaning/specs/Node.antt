@@ -1,10 +1,10 @@
--- What each action does to one node. Document 01, "The three actions".
+-- What each action does to one node. Document 01, "The three actions"; document 02, T-04.
 use mathlib.Core.Bool.{Bool, true, false}
 use mathlib.Core.List.{List, [], _∷_, _++_}
-use Prim.Native.Nat.{ℕ}
+use Prim.Native.Nat.{ℕ, max}
 use lib.ListN.{getD, set}
 use Rattle.meaning.specs.declared.Record.{Record}
-use Rattle.meaning.specs.Rows.{least, raise, newer, above}
+use Rattle.meaning.specs.Rows.{least, raise, newer, above, due, inOrder}
 use Rattle.meaning.specs.Table.{Node}
 
 -- a node's own summary entry
@@ -18,6 +18,7 @@ wrote p t block verdict x =
       summary = set (x .summary) p t;
       acks = x .acks;
       log = x .log ++ (record { origin = p; timestamp = t; block = block; verdict = verdict } ∷ []);
+      mark = x .mark;
     }
 
 -- Session: "the own summary entry becomes the reading, then the own acknowledgement entry becomes the smallest entry of that summary"
@@ -27,6 +28,7 @@ opened p reading x =
       summary = set (x .summary) p reading;
       acks = set (x .acks) p (least (set (x .summary) p reading));
       log = x .log;
+      mark = x .mark;
     }
 
 -- what a side that finishes takes: "in the partner's log order, those records the partner held at the start" that are newer than its own starting summary
@@ -41,6 +43,7 @@ finished mine theirs =
       summary = raise (mine .summary) (theirs .summary);
       acks = raise (mine .acks) (theirs .acks);
       log = mine .log ++ sent mine theirs;
+      mark = mine .mark;
     }
 
 -- "A side that doesn't finish keeps its starting values and takes no record."
@@ -50,4 +53,15 @@ ended false mine theirs = mine
 
 -- Purge: "Every held record whose timestamp is at most" the limit "leaves."
 unfoldable pub purged : ℕ → Node → Node
-purged limit x = record { summary = x .summary; acks = x .acks; log = above limit (x .log) }
+purged limit x = record { summary = x .summary; acks = x .acks; log = above limit (x .log); mark = x .mark }
+
+-- Deliver: due are "the held records above the mark and not above the smallest summary entry", and it gives them "by timestamp and then origin"
+unfoldable pub waiting : Node → List Record
+waiting x = due (x .mark) (least (x .summary)) (x .log)
+
+unfoldable pub given : Node → List Record
+given x = inOrder (waiting x)
+
+-- and it "raises the mark to that entry where it is greater"
+unfoldable pub delivered : Node → Node
+delivered x = record { summary = x .summary; acks = x .acks; log = x .log; mark = max (x .mark) (least (x .summary)) }

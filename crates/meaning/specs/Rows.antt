@@ -1,11 +1,11 @@
--- What is said of a row of numbers or a list of records. Document 01, "The three actions".
-use mathlib.Core.Bool.{Bool, true, false, not, _&&_, cond}
+-- What is said of a row of numbers or a list of records. Document 01, "The three actions"; document 02, T-02 and T-04.
+use mathlib.Core.Bool.{Bool, true, false, not, _&&_, _||_, cond}
 use mathlib.Core.List.{List, [], _∷_, _++_}
 use Prim.Native.Nat.{ℕ, zero, suc, _+_, _*_, min, max}
 use Prim.Native.Char.{code}
 use Prim.Native.String.{String, len, charAt}
 use lib.ListN.{getD}
-use lib.Dec.{leb}
+use lib.Dec.{leb, ltb, eqb}
 use Rattle.meaning.specs.declared.Record.{Record}
 
 -- A refusal changes nothing: what is new at 0, what was there at any other number
@@ -69,6 +69,23 @@ newer summary = keep (λ r. not (covers summary r))
 -- the records that a purge leaves: those not at most the limit
 unfoldable pub above : ℕ → List Record → List Record
 above limit = keep (λ r. not (leb (r .timestamp) limit))
+
+-- T-04. The records "above the mark and not above the smallest summary entry", in their order
+unfoldable pub due : ℕ → ℕ → List Record → List Record
+due mark limit = keep (λ r. ltb mark (r .timestamp) && leb (r .timestamp) limit)
+
+-- "by timestamp and then origin": the first is not after the second
+unfoldable pub earlier : Record → Record → Bool
+earlier r s = ltb (r .timestamp) (s .timestamp) || (eqb (r .timestamp) (s .timestamp) && leb (r .origin) (s .origin))
+
+-- a list in that order; those that neither part tells apart keep the order they had
+unfoldable pub inserted : Record → List Record → List Record
+inserted r [] = r ∷ []
+inserted r (s ∷ ss) = cond (earlier r s) (r ∷ (s ∷ ss)) (s ∷ inserted r ss)
+
+unfoldable pub inOrder : List Record → List Record
+inOrder [] = []
+inOrder (r ∷ rs) = inserted r (inOrder rs)
 
 -- a log's words: "rows of 4: origin, timestamp, block, verdict"
 unfoldable pub recordAt : List ℕ → ℕ → Record

@@ -1,18 +1,19 @@
 -- Steps on a table: the refusal number, the reply and the words at exit, for every list of words and every action.
--- Document 01, "The three actions" and "Refusal numbers and their order".
+-- Document 01, "The three actions" and "Refusal numbers and their order"; document 02, T-04.
 use mathlib.Core.Bool.{Bool, false, not, _&&_, _||_, cond}
-use mathlib.Core.List.{List, [], _∷_}
-use Prim.Native.Nat.{ℕ, zero, suc, _-_}
+use mathlib.Core.List.{List, [], _∷_, _++_}
+use Prim.Native.Nat.{ℕ, zero, suc, _-_, _*_, min}
 use lib.ListN.{length}
 use lib.Dec.{leb, ltb, eqb}
 use Rattle.meaning.specs.declared.Action.{Action}
-use Rattle.meaning.specs.declared.Action.the-variants.{Write, Session, Purge}
+use Rattle.meaning.specs.declared.Action.the-variants.{Write, Session, Purge, Deliver}
+use Rattle.meaning.specs.declared.Record.{Record}
 use Rattle.meaning.specs.declared.Reply.{Reply}
-use Rattle.meaning.specs.declared.Reply.the-variants.{Written, Carried, Purged, Refused}
-use Rattle.meaning.specs.Rows.{unless, least, leastAt}
+use Rattle.meaning.specs.declared.Reply.the-variants.{Written, Carried, Purged, Delivered, Refused}
+use Rattle.meaning.specs.Rows.{unless, least, leastAt, words}
 use Rattle.meaning.specs.Refusals.{Test, test, first}
-use Rattle.meaning.specs.Table.{Node, logMost, absent, node, putNode, sound}
-use Rattle.meaning.specs.Node.{own, wrote, opened, sent, finished, ended, purged}
+use Rattle.meaning.specs.Table.{Node, logMost, place, absent, node, putNode, sound}
+use Rattle.meaning.specs.Node.{own, wrote, opened, sent, finished, ended, purged, waiting, given, delivered}
 
 -- "outcome 0 finishes neither side, 1 only a, 2 only b, 3 both"
 abbrev pub finishesA : ℕ → Bool
@@ -26,6 +27,7 @@ unfoldable pub outcomeAbove : Action → Bool
 outcomeAbove (Write p t b v) = false
 outcomeAbove (Session a b ca cb o) = ltb 3 o
 outcomeAbove (Purge p) = false
+outcomeAbove (Deliver p) = false
 
 -- a finishing side would hold more than 64; "Number 6 asks nothing of a side that doesn't finish."
 abbrev pub overfull : Bool → Node → Node → Bool
@@ -65,13 +67,20 @@ refusals t (Purge p) =
     -- "a node number is n or more"
     test 3 (absent t p) ∷
     []
+-- of a list with room for all 64 records of a log, as the replay lends it
+refusals t (Deliver p) =
+    -- "the table is not sound"
+    test 1 (not (sound t)) ∷
+    -- "a node number is n or more"
+    test 3 (absent t p) ∷
+    []
 
 unfoldable pub refusal : List ℕ → Action → ℕ
 refusal t x = first (refusals t x)
 
--- what a purge goes by: "the smallest entry of p's acknowledgement row"
+-- what a purge goes by: "the smallest entry of p's acknowledgement row"; and it "removes only records that are also not above the mark"
 unfoldable pub limit : List ℕ → ℕ → ℕ
-limit t p = least (node t p .acks)
+limit t p = min (least (node t p .acks)) (node t p .mark)
 
 -- who holds a purge up: "the node that has it (the lowest among equals)"
 unfoldable pub lagging : List ℕ → ℕ → ℕ
@@ -84,6 +93,7 @@ acted t (Session a b ca cb o) =
     putNode b (ended (finishesB o) (opened b cb (node t b)) (opened a ca (node t a)))
     (putNode a (ended (finishesA o) (opened a ca (node t a)) (opened b cb (node t b))) t)
 acted t (Purge p) = putNode p (purged (limit t p) (node t p)) t
+acted t (Deliver p) = putNode p (delivered (node t p)) t
 
 -- "how many records it carried to each side (0 for a side that didn't finish)"
 abbrev pub carried : Bool → Node → Node → ℕ
@@ -95,6 +105,7 @@ reported t (Session a b ca cb o) =
     Carried (carried (finishesA o) (opened a ca (node t a)) (opened b cb (node t b)))
     (carried (finishesB o) (opened b cb (node t b)) (opened a ca (node t a)))
 reported t (Purge p) = Purged (length (node t p .log) - length (purged (limit t p) (node t p) .log)) (lagging t p)
+reported t (Deliver p) = Delivered (length (waiting (node t p)))
 
 -- A refusal "reports zero counts and changes no word".
 abbrev pub replied : ℕ → Reply → Reply
@@ -112,4 +123,29 @@ abbrev pub replyValues : Reply → List ℕ
 replyValues Written = 0 ∷ 0 ∷ 0 ∷ []
 replyValues (Carried a b) = 0 ∷ a ∷ b ∷ []
 replyValues (Purged k q) = 0 ∷ k ∷ q ∷ []
+replyValues (Delivered k) = 0 ∷ k ∷ 0 ∷ []
 replyValues (Refused k) = k ∷ 0 ∷ 0 ∷ []
+
+-- A delivery into a lent list of k words. What is due of an action
+unfoldable pub dueOf : List ℕ → Action → List Record
+dueOf t (Write p c b v) = []
+dueOf t (Session a b ca cb o) = []
+dueOf t (Purge p) = []
+dueOf t (Deliver p) = waiting (node t p)
+
+-- "a list too short for what is due gives 7, after 6, mark and list unchanged"
+unfoldable pub lentRefusals : List ℕ → ℕ → Action → List Test
+lentRefusals t k x = refusals t x ++ (test 7 (ltb k (4 * length (dueOf t x))) ∷ [])
+
+unfoldable pub lentRefusal : List ℕ → ℕ → Action → ℕ
+lentRefusal t k x = first (lentRefusals t k x)
+
+unfoldable pub lentReply : List ℕ → ℕ → Action → Reply
+lentReply t k x = replied (lentRefusal t k x) (reported t x)
+
+unfoldable pub lentAfter : List ℕ → ℕ → Action → List ℕ
+lentAfter t k x = unless (lentRefusal t k x) (acted t x) t
+
+-- "a delivery writes into a lent list" what it gives, from place 0, four words a record; "the rest of the list stays"
+unfoldable pub listAfter : List ℕ → List ℕ → ℕ → List ℕ
+listAfter t out p = unless (lentRefusal t (length out) (Deliver p)) (place 0 (words (given (node t p))) out) out

@@ -1,4 +1,5 @@
--- The table: where each part stands, a node in it, a fresh one, soundness. Document 01, "The table".
+-- The table: where each part stands, a node in it, a fresh one, soundness. Document 01, "The table"; document 02, T-04: "The table grows by 16
+-- words at its end", the marks.
 -- No other file of the product's definitions knows an offset.
 use mathlib.Core.Path.{_≡_}
 use mathlib.Core.Bool.{Bool, true, not, _&&_}
@@ -10,9 +11,10 @@ use Rattle.meaning.specs.declared.Record.{Record}
 use Rattle.meaning.specs.Rows.{every, all, unless, recordAt, records, words}
 use Rattle.meaning.specs.Refusals.{test, first}
 
--- "A lent table of exactly 4,625 words": the count, summaries (16 rows of 16), acknowledgements (the same), held (16), logs (16 × 64 rows of 4)
+-- A lent table of exactly 4,641 words: the count, summaries (16 rows of 16), acknowledgements (the same), held (16), logs (16 × 64 rows of 4),
+-- marks (16)
 abbrev pub tableWords : ℕ
-tableWords = 4625
+tableWords = 4641
 
 abbrev pub nodesMost : ℕ
 nodesMost = 16
@@ -35,6 +37,9 @@ heldAt p = 513 + p
 abbrev pub logAt : ℕ → ℕ
 logAt p = 529 + 256 * p
 
+abbrev pub markAt : ℕ → ℕ
+markAt p = 4625 + p
+
 -- k words from a place, and a list put over the words from a place
 unfoldable pub part : ℕ → ℕ → List ℕ → List ℕ
 part at k t = take k (drop at t)
@@ -52,11 +57,16 @@ absent t p = leb (count t) p
 unfoldable pub held : List ℕ → ℕ → ℕ
 held t p = getD t (heldAt p) 0
 
--- A node: its summary, its acknowledgements (n entries each) and its log, oldest first
+-- "each node has a mark, at first 0"
+unfoldable pub mark : List ℕ → ℕ → ℕ
+mark t p = getD t (markAt p) 0
+
+-- A node: its summary, its acknowledgements (n entries each), its log, oldest first, and its mark
 pub record Node : Type 0 where
   pub summary : List ℕ
   pub acks : List ℕ
   pub log : List Record
+  pub mark : ℕ
 
 unfoldable pub node : List ℕ → ℕ → Node
 node t p =
@@ -64,6 +74,7 @@ node t p =
       summary = part (summaryAt p) (count t) t;
       acks = part (acksAt p) (count t) t;
       log = records (held t p) (part (logAt p) (4 * logMost) t);
+      mark = mark t p;
     }
 
 -- Words that go to a place of the table; and such pieces laid over it, the last of the list first
@@ -82,13 +93,14 @@ lay (x ∷ xs) t = place (x .at) (x .new) (lay xs t)
 abbrev pub logWords : ℕ → Node → List ℕ → List ℕ
 logWords p x t = words (x .log) ++ replicate (4 * (held t p - length (x .log))) 0
 
--- a node's words and where they go: its n entries of each row, its held number, its log
+-- a node's words and where they go: its n entries of each row, its held number, its log, its mark
 unfoldable pub pieces : ℕ → Node → List ℕ → List Piece
 pieces p x t =
     piece (summaryAt p) (x .summary) ∷
     piece (acksAt p) (x .acks) ∷
     piece (heldAt p) (length (x .log) ∷ []) ∷
     piece (logAt p) (logWords p x t) ∷
+    piece (markAt p) (x .mark ∷ []) ∷
     []
 
 -- the table with node p changed
@@ -116,7 +128,7 @@ recordSound n r = ltb (r .origin) n && leb (r .verdict) 255
 unfoldable pub logSound : List ℕ → ℕ → Bool
 logSound t p = leb (held t p) logMost && every (held t p) (λ i. recordSound (count t) (recordAt (part (logAt p) (4 * logMost) t) i))
 
--- "A table is sound if its length is 4,625, its count is 2 to 16, every held number of a node below n is at most 64, and .."
+-- "A table is sound if its length is" 4,641, "its count is 2 to 16, every held number of a node below n is at most 64, and .."
 unfoldable pub sound : List ℕ → Bool
 sound t = eqb (length t) tableWords && (countRight (count t) && every (count t) (logSound t))
 

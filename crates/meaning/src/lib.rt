@@ -9,7 +9,7 @@ pub struct Record {
     pub verdict: u32,
 }
 
-// What a step does: exactly one of three actions, each with its own fields, as wide as in the frame.
+// What a step does: exactly one of four actions, each with its own fields, as wide as in the frame.
 pub enum Action {
     Write {
         node: u8,
@@ -27,6 +27,9 @@ pub enum Action {
     Purge {
         node: u8,
     },
+    Deliver {
+        node: u8,
+    },
 }
 
 // A step carries its line number and its action.
@@ -35,12 +38,13 @@ pub struct Step {
     pub action: Action,
 }
 
-// What a step reports: a session how many records it carried to each side, a purge how many it removed and the node that lags, a write nothing, and
-// a refused step its number. Steps.antt gives the number and the values of each.
+// What a step reports: a session how many records it carried to each side, a purge how many it removed and the node that lags, a delivery how many
+// it wrote into the list, a write nothing, and a refused step its number. Steps.antt gives the number and the values of each.
 pub enum Reply {
     Written,
     Carried { a: u32, b: u32 },
     Purged { removed: u32, lags: u8 },
+    Delivered { records: u32 },
     Refused { number: u32 },
 }
 

@@ -8,7 +8,7 @@ use lib.ListN.{getD, drop}
 use lib.Dec.{eqb, ltb}
 use borrow.Author.Tests.{eqb-true, eqb-false, eq-eqb, ne-eqb, ltb-true}
 use Rattle.meaning.specs.declared.Action.{Action}
-use Rattle.meaning.specs.declared.Action.the-variants.{Write, Session, Purge}
+use Rattle.meaning.specs.declared.Action.the-variants.{Write, Session, Purge, Deliver}
 use Rattle.meaning.specs.declared.Step.{Step}
 use Rattle.meaning.specs.declared.Fault.{Fault}
 use Rattle.meaning.specs.declared.Line.{Line}
@@ -83,6 +83,7 @@ kind-some : (x : Action) → kindOf x ≡ 0 → ⊥
 kind-some (Write p t b v) e = omega (arith, e)
 kind-some (Session a b ca cb o) e = omega (arith, e)
 kind-some (Purge p) e = omega (arith, e)
+kind-some (Deliver p) e = omega (arith, e)
 
 -- a line with no refusal is a start or a step
 abbrev Accepted : Line → Type 0
@@ -113,20 +114,26 @@ module _ (kind a b c d e : ℕ) where
   unfolding stepIn
   in-session h = cc (ne-eqb kind 1 (λ f. omega (arith, h, f)), eq-eqb kind 2 h)
 
-  pub in-purge : (kind ≡ 1 → ⊥) → (kind ≡ 2 → ⊥) → Purge a ≡ stepIn kind a b c d e
+  pub in-deliver : kind ≡ 5 → Deliver a ≡ stepIn kind a b c d e
   unfolding stepIn
-  in-purge h k = cc (ne-eqb kind 1 h, ne-eqb kind 2 k)
+  in-deliver h = cc (ne-eqb kind 1 (λ f. omega (arith, h, f)), ne-eqb kind 2 (λ f. omega (arith, h, f)), eq-eqb kind 5 h)
+
+  pub in-purge : (kind ≡ 1 → ⊥) → (kind ≡ 2 → ⊥) → (kind ≡ 5 → ⊥) → Purge a ≡ stepIn kind a b c d e
+  unfolding stepIn
+  in-purge h k m = cc (ne-eqb kind 1 h, ne-eqb kind 2 k, ne-eqb kind 5 m)
 
   -- the words that are fields of one byte
   module _ (h : wide (stepIn kind a b c d e) ≡ true) where
     pub first-byte : a < 256
     unfolding wide widthsIn journalKinds
-    first-byte = go (eqb kind 1) (eqb kind 2) refl refl
+    first-byte = go (eqb kind 1) (eqb kind 2) (eqb kind 5) refl refl refl
       where
-        go : (x y : Bool) → eqb kind 1 ≡ x → eqb kind 2 ≡ y → a < 256
-        go true y p q = ltb-true a 256 (and-left _ _ (ap wide (in-write (eqb-true kind 1 p)) ∙ h))
-        go false true p q = ltb-true a 256 (and-left _ _ (ap wide (in-session (eqb-true kind 2 q)) ∙ h))
-        go false false p q = ltb-true a 256 (and-left _ _ (ap wide (in-purge (eqb-false kind 1 p) (eqb-false kind 2 q)) ∙ h))
+        go : (x y z : Bool) → eqb kind 1 ≡ x → eqb kind 2 ≡ y → eqb kind 5 ≡ z → a < 256
+        go true y z p q r = ltb-true a 256 (and-left _ _ (ap wide (in-write (eqb-true kind 1 p)) ∙ h))
+        go false true z p q r = ltb-true a 256 (and-left _ _ (ap wide (in-session (eqb-true kind 2 q)) ∙ h))
+        go false false true p q r = ltb-true a 256 (and-left _ _ (ap wide (in-deliver (eqb-true kind 5 r)) ∙ h))
+        go false false false p q r =
+            ltb-true a 256 (and-left _ _ (ap wide (in-purge (eqb-false kind 1 p) (eqb-false kind 2 q) (eqb-false kind 5 r)) ∙ h))
 
     pub verdict-byte : kind ≡ 1 → d < 256
     unfolding wide widthsIn journalKinds
@@ -154,6 +161,7 @@ unfolding stepIn place padded
 step-told (Write p t b w) v e = rw e refl
 step-told (Session a b ca cb o) v e = rw e refl
 step-told (Purge p) v e = rw e refl
+step-told (Deliver p) v e = rw e refl
 
 pub applied-as : (t : List ℕ) {a x : Action} {r : Reply} {t′ : List ℕ} → a ≡ x → Applied t a r t′ → Applied t x r t′
 applied-as t e d = (d .0 ∙ ap (reply t) e, d .1 ∙ ap (after t) e)

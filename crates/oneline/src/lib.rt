@@ -27,6 +27,7 @@ fn apply_words(t: &mut [u32], kind: u32, a: u32, b: u32, c: u32, d: u32, e: u32)
     match kind {
         1 => table::act::write(t, node, b, c, d as u8),
         2 => table::act::session(t, node, b as u8, c, d, e as u8),
+        5 => table::act::deliver_alone(t, node),
         _ => table::act::purge(t, node),
     }
 }

@@ -21,6 +21,8 @@ use Rattle.pollencart.proofs.framing.pollencart_frame_session.Kinds as 
 use Rattle.pollencart.proofs.framing.pollencart_frame_session.Reads as session
 use Rattle.pollencart.proofs.framing.pollencart_frame_purge.Kinds as purge-kinds
 use Rattle.pollencart.proofs.framing.pollencart_frame_purge.Reads as purge
+use Rattle.pollencart.proofs.framing.pollencart_frame_deliver.Kinds as deliver-kinds
+use Rattle.pollencart.proofs.framing.pollencart_frame_deliver.Reads as deliver
 
 pub one-check : OneReply 2 check-kinds.ps check-kinds.r check.Post (λ κs x s. x ∷ now (s .1 .0) ∷ [])
 one-check κs a x y s s' p q = p ∙ sym q
@@ -45,3 +47,6 @@ one-session κs a x y s s' p q = both (p .0) (q .0) (p .1) (q .1)
 
 pub one-purge : OneReply 2 purge-kinds.ps purge-kinds.r purge.Post (λ κs x s. (x ∷ now (s .1 .1 .0) ∷ []) ++ now (s .0))
 one-purge κs a x y s s' p q = both (p .0) (q .0) (p .1) (q .1)
+
+pub one-deliver : OneReply 2 deliver-kinds.ps deliver-kinds.r deliver.Post (λ κs x s. (x ∷ now (s .1 .1 .0) ∷ []) ++ now (s .0))
+one-deliver κs a x y s s' p q = both (p .0) (q .0) (p .1) (q .1)

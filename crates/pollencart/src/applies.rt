@@ -5,8 +5,8 @@ use answers::first_of;
 use answers::number_of;
 use answers::second_of;
 
-// Reads a line, without its LF, and applies its step; what a session carried to each side or a purge removed is stored, and the place in the line
-// where it is the line that is refused, else 0.
+// Reads a line, without its LF, and applies its step; what a session carried to each side, a purge removed or a delivery would give is stored,
+// and the place in the line where it is the line that is refused, else 0.
 #[no_mangle]
 pub extern "C" fn pollencart_apply_line(
     table: &mut [u32],

@@ -3,7 +3,7 @@ ghost use mathlib.Core.Path.{_≡_};
 ghost use mathlib.Core.List.{[], _∷_};
 ghost use Prim.Native.Nat.{_+_};
 ghost use lib.ListN.{getD};
-ghost use Rattle.meaning.specs.declared.Action.the-variants.{Write, Session, Purge};
+ghost use Rattle.meaning.specs.declared.Action.the-variants.{Write, Session, Purge, Deliver};
 ghost use Rattle.meaning.specs.Frames.{readLine, lineFault, lineValues};
 ghost use Rattle.answers.specs.Told.{LineRead, Framed, Started, faultValues};
 use answers::locate;
@@ -91,5 +91,14 @@ pub extern "C" fn pollencart_frame_purge(out: &mut [u8], node: u8, length: &mut 
     ensures { λ r. ⌜ Framed (now (out .entry)) (Purge node) (r ∷ now (length .exit) ∷ []) (now (out .exit)) ⌝ }
 {
     let answer = writing::write::purge(out, node);
+    report(answer, length)
+}
+
+// Writes a delivery's frame, LF included, from place 0.
+#[no_mangle]
+pub extern "C" fn pollencart_frame_deliver(out: &mut [u8], node: u8, length: &mut u32) -> u32
+    ensures { λ r. ⌜ Framed (now (out .entry)) (Deliver node) (r ∷ now (length .exit) ∷ []) (now (out .exit)) ⌝ }
+{
+    let answer = writing::write::deliver(out, node);
     report(answer, length)
 }

@@ -1,6 +1,6 @@
 // What C reads of a table: one scan for soundness a call, and 0 where there is none. Thin over the crate `entries`.
 ghost use mathlib.Core.Path.{_≡_};
-ghost use Rattle.entries.specs.Entries.{summaryEntry, ackEntry, heldNumber, recordWord};
+ghost use Rattle.entries.specs.Entries.{summaryEntry, ackEntry, heldNumber, recordWord, markEntry};
 
 // A node's summary entry for an origin.
 #[no_mangle]
@@ -32,4 +32,12 @@ pub extern "C" fn pollencart_record(table: &[u32], node: u8, index: u32, word: u
     ensures { λ r. ⌜ r ≡ recordWord (now (table .entry)) node index word ⌝ }
 {
     entries::record_word(table, node, index, word)
+}
+
+// A node's mark: it has delivered every record of a timestamp up to this.
+#[no_mangle]
+pub extern "C" fn pollencart_mark(table: &[u32], node: u8) -> u32
+    ensures { λ r. ⌜ r ≡ markEntry (now (table .entry)) node ⌝ }
+{
+    entries::mark_of(table, node)
 }

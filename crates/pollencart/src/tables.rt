@@ -1,9 +1,9 @@
-// The table for C: a fresh one, and each of the three actions on the caller's own words. Thin over the crate `table`.
+// The table for C: a fresh one, and each of the four actions on the caller's own words. Thin over the crate `table`.
 ghost use mathlib.Core.Path.{_≡_};
 ghost use mathlib.Core.List.{[], _∷_};
 ghost use Rattle.meaning.specs.declared.Action.the-variants.{Write, Session, Purge};
 ghost use Rattle.meaning.specs.Table.{freshRefusal, madeFresh};
-ghost use Rattle.answers.specs.Told.{Stepped};
+ghost use Rattle.answers.specs.Told.{Stepped, DeliveryTold};
 use answers::first_of;
 use answers::number_of;
 use answers::second_of;
@@ -64,5 +64,20 @@ pub extern "C" fn pollencart_purge(
     let answer = table::act::purge(table, node);
     *removed = first_of(answer);
     *lags = second_of(answer);
+    number_of(answer)
+}
+
+// A node delivers what is due to it into the list lent, in the order that is the same everywhere; how many records it wrote there is stored.
+#[no_mangle]
+pub extern "C" fn pollencart_deliver(
+    table: &mut [u32],
+    node: u8,
+    list: &mut [u32],
+    delivered: &mut u32,
+) -> u32
+    ensures { λ r. ⌜ DeliveryTold (now (table .entry)) (now (list .entry)) node (r ∷ now (delivered .exit) ∷ []) (now (table .exit)) (now (list .exit)) ⌝ }
+{
+    let answer = table::act::deliver(table, list, node);
+    *delivered = first_of(answer);
     number_of(answer)
 }

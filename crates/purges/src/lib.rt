@@ -1,9 +1,9 @@
-// Purge: the records that every node has acknowledged leave a log.
+// Purge: the records that every node has acknowledged, and that were delivered here, leave a log.
 ghost use mathlib.Core.Path.{_≡_};
 ghost use Prim.Native.Nat.{_+_, _-_, _*_, _≤_, _<_};
 ghost use lib.ListN.{length, replicate};
 ghost use Rattle.meaning.specs.declared.Action.the-variants.{Purge};
-ghost use Rattle.meaning.specs.Rows.{above};
+ghost use Rattle.meaning.specs.Rows.{above, least};
 ghost use Rattle.meaning.specs.Table.{tableWords, nodesMost, logMost, logAt, count, node, part, place, Sound};
 ghost use Rattle.meaning.specs.Steps.{limit, lagging};
 ghost use Rattle.logs.specs.Carry.{Puts, FirstLeaving};
@@ -12,21 +12,33 @@ ghost use Rattle.purges.specs.Dropped.{Dropped};
 use logs::close_up;
 use logs::first_leaving;
 use looks::held_of;
+use looks::mark_of;
 use looks::nodes_of;
 use meaning::Least;
 use meaning::Reply;
 use rows::clear;
 use rows::least_with;
+use rows::min_of;
 use rows::put_word;
 
 // The smallest entry of node p's acknowledgement row, over its n entries, and the node that has it.
-fn limit_of(t: &[u32], p: usize, n: usize) -> Least
+fn low_of(t: &[u32], p: usize, n: usize) -> Least
     requires { ⌜ Sound (now t) × (p < count (now t)) × (n ≡ count (now t)) ⌝ }
-    ensures { λ r. ⌜ (r .value ≡ limit (now (t .entry)) p) × (r .at ≡ lagging (now (t .entry)) p) × (r .at < n) ⌝ }
+    ensures { λ r. ⌜ (r .value ≡ least (node (now (t .entry)) p .acks)) × (r .at ≡ lagging (now (t .entry)) p) × (r .at < n) ⌝ }
 {
     let at = layout::acks_at(p);
     let end = at + n;
     least_with(&t[at..end], 0, t[at])
+}
+
+// What a purge goes by, that entry or the mark where that is smaller, and the node that has the entry.
+fn limit_of(t: &[u32], p: usize, n: usize) -> Least
+    requires { ⌜ Sound (now t) × (p < count (now t)) × (n ≡ count (now t)) ⌝ }
+    ensures { λ r. ⌜ (r .value ≡ limit (now (t .entry)) p) × (r .at ≡ lagging (now (t .entry)) p) × (r .at < n) ⌝ }
+{
+    let low = low_of(t, p, n);
+    let value = min_of(low.value, mark_of(t, p));
+    Least { value, at: low.at }
 }
 
 // The row of the first record of p's log that leaves; `held` where none does.

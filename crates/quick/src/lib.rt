@@ -1,5 +1,5 @@
 // The quick way: whether a line of one of the kinds' lengths is accepted, sure in both directions. A line of 24 characters can only be a write, one
-// of 26 a session, one of six a start or a purge. Inner functions: what they require, `contents`, `reading` and `words` show.
+// of 26 a session, one of six a start, a purge or a delivery. Inner functions: what they require, `contents`, `reading` and `words` show.
 ghost use mathlib.Core.Path.{_≡_};
 ghost use Prim.Native.Nat.{_<_};
 ghost use lib.ListN.{length};

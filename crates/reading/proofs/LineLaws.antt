@@ -29,7 +29,7 @@ use Rattle.meaning.specs.Frames.{
 use Rattle.meaning.proofs.FrameLaws.{digits-even, kind-cases, good, clear}
 use Rattle.contents.proofs.ContentLaws.{refused-at, line-whole, line-begin, line-act}
 use Rattle.numbers.specs.Numbers.{fieldAt, Within}
-use Rattle.heads.specs.Heads.{shortOf}
+use Rattle.heads.specs.Heads.{noLine, shortOf}
 use Rattle.heads.proofs.QuickLaws.{kind-24, kind-26, short-tells, held-kind}
 
 module _ (l : List ℕ) where
@@ -55,7 +55,7 @@ module _ (l : List ℕ) where
 
     kind-of : (f : List ℕ) (m : ℕ) → known m ≡ true → (m ≡ 0 → ⊥) → kindOf (actionOf m f) ≡ m
     unfolding actionOf
-    kind-of f = kind-cases (λ (m : ℕ). (m ≡ 0 → ⊥) → kindOf (actionOf m f) ≡ m) (λ z. absurd (z refl)) (λ z. refl) (λ z. refl) (λ z. refl)
+    kind-of f = kind-cases (λ (m : ℕ). (m ≡ 0 → ⊥) → kindOf (actionOf m f) ≡ m) (λ z. absurd (z refl)) (λ z. refl) (λ z. refl) (λ z. refl) (λ z. refl)
 
     pub line-kind : kind ≡ getD (lineValues (readLine 0 l)) 2 0
     line-kind = go (eqb kind 0) refl
@@ -82,5 +82,5 @@ module _ (l : List ℕ) (z : lineRefusal l ≡ 0) where
   kind-session long = line-kind l z 2 (kind-26 l (good l z) long)
 
 -- the kind of a line shorter than a write's, by what it holds
-pub kind-held : (l : List ℕ) (x : ℕ) → x ≡ shortOf l → length l < 24 → x < 1024 → x / 256 ≡ getD (lineValues (readLine 0 l)) 2 0
+pub kind-held : (l : List ℕ) (x : ℕ) → x ≡ shortOf l → length l < 24 → x < noLine → x / 256 ≡ getD (lineValues (readLine 0 l)) 2 0
 kind-held l x e few h = held-kind l x e few h ∙ line-kind l (clear l (short-tells l x e h .0)) (lineKind (bytesOf l)) refl

@@ -7,7 +7,7 @@ use libc::STDOUT_FILENO;
 
 // Prints what a journal gives.
 fn print(journal: &[u8]) {
-    let mut table = [0u32; 4625];
+    let mut table = [0u32; 4641];
     let mut out = [0u8; 12288];
     let k = run::replay(journal, &mut table, &mut out);
     let is_written = io::write_all(STDOUT_FILENO, &out[..k]);

@@ -11,7 +11,7 @@ ghost use Rattle.meaning.specs.Table.{place};
 use meaning::Least;
 
 // The smaller and the greater of two numbers.
-fn min_of(x: u32, y: u32) -> u32
+pub fn min_of(x: u32, y: u32) -> u32
     ensures { λ r. ⌜ r ≡ Prim.Native.Nat.min x y ⌝ }
 {
     if x <= y { x } else { y }

@@ -9,7 +9,7 @@ use Rattle.meaning.specs.Rows.{newer, raise, words}
 use Rattle.meaning.specs.Table.{Node, tableWords, nodesMost, logMost, summaryAt, acksAt, heldAt, logAt, place, count, held, node, putNode, Sound}
 use Rattle.meaning.specs.Node.{ended}
 use Rattle.meaning.specs.Steps.{overfull, carried}
-use Rattle.openings.specs.Begun.{begun, crowds, heldLog}
+use Rattle.openings.specs.Begun.{begun, rowed, crowds, heldLog}
 
 -- what of a log a side takes, comparing with a row: the newer records if it finishes
 abbrev pub came : Bool → List ℕ → List Record → List Record
@@ -32,6 +32,10 @@ rowsPut finishes p sp kp sq kq t = place (summaryAt p) (merged finishes sp sq) (
 -- the table after one side, p, that begins as x, its partner as y
 abbrev pub sided : Bool → ℕ → Node → Node → List ℕ → List ℕ
 sided finishes p x y t = putNode p (ended finishes x y) t
+
+-- node q with other rows, shown with its first k records only
+abbrev pub shownTo : ℕ → ℕ → List ℕ → List ℕ → List ℕ → Node
+shownTo q k summary acks t = begun summary acks (heldLog t q k) (node t q .mark)
 
 -- Two nodes of a sound table, a row with an entry for each node, how many records p has, how many of q's it is shown, and room for what comes
 pub record Takes (t : List ℕ) (f : Bool) (p q : ℕ) (known : List ℕ) (had shown : ℕ) : Type 0 where
@@ -67,10 +71,10 @@ pub record Sides (t : List ℕ) (f : Bool) (p q : ℕ) (sp kp sq kq : List ℕ) 
   pub longQ : (length sq ≡ count t) × (length kq ≡ count t)
   pub mine : had ≡ held t p
   pub theirs : shown ≤ held t q
-  pub room : overfull f (begun sp kp (node t p .log)) (begun sq kq (heldLog t q shown)) ≡ false
+  pub room : overfull f (rowed t p sp kp) (shownTo q shown sq kq t) ≡ false
 
 -- How many records p then has, and the words at exit
 pub record Sided (t : List ℕ) (f : Bool) (p q : ℕ) (sp kp sq kq : List ℕ) (had shown r : ℕ) (u : List ℕ) : Type 0 where
-  pub total : r ≡ had + carried f (begun sp kp (node t p .log)) (begun sq kq (heldLog t q shown))
+  pub total : r ≡ had + carried f (rowed t p sp kp) (shownTo q shown sq kq t)
   pub most : r ≤ logMost
-  pub leaves : u ≡ sided f p (begun sp kp (node t p .log)) (begun sq kq (heldLog t q shown)) t
+  pub leaves : u ≡ sided f p (rowed t p sp kp) (shownTo q shown sq kq t) t

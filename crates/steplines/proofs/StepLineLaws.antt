@@ -8,10 +8,10 @@ use Rattle.meaning.specs.declared.Action.{Action}
 use Rattle.meaning.specs.declared.Line.{Line}
 use Rattle.meaning.specs.declared.Line.the-variants.{Begin, Act, Refused}
 use Rattle.meaning.specs.declared.Reply.{Reply}
-use Rattle.meaning.specs.declared.Action.the-variants.{Write, Session, Purge}
+use Rattle.meaning.specs.declared.Action.the-variants.{Write, Session, Purge, Deliver}
 use Rattle.meaning.specs.Table.{Sound}
 use Rattle.meaning.specs.Steps.{refusal, reported, replied, reply}
-use Rattle.meaning.specs.Frames.{lineRefusal, readLine}
+use Rattle.meaning.specs.Frames.{bytesOf, lineKind, lineRefusal, readLine}
 use Rattle.meaning.specs.Journals.{oneIf}
 use Rattle.meaning.proofs.FrameLaws.{Good, good, read-refused}
 use Rattle.meaning.proofs.StepLaws.{verdictOf, after-sound}
@@ -20,8 +20,9 @@ use Rattle.digits.specs.Digits.{sumOf, valuesOf}
 use Rattle.numbers.specs.Numbers.{joinedAt, Joins}
 use Rattle.digits.proofs.DigitLaws.{sum-digits, length-values, values-small}
 use Rattle.heads.specs.Heads.{shortOf}
-use Rattle.heads.proofs.QuickLaws.{kind-chars, good-write, field-small, short-tells, short-refused}
-use Rattle.heads.proofs.SaidLaws.{writeOf, write-line, purge-line}
+use Rattle.heads.proofs.QuickLaws.{good-write, short-tells, short-refused, held-kind}
+use Rattle.heads.proofs.FieldLaws.{kind-lengths}
+use Rattle.heads.proofs.SaidLaws.{writeOf, write-line, purge-line, deliver-line, start-line}
 use Rattle.meaning.specs.Lines.{leftBy}
 use Rattle.steplines.specs.StepLines.{refusedBy, toldOf, Turned, Begins}
 
@@ -31,6 +32,7 @@ unfolding reported
 reported-none t (Write p c b v) = refl
 reported-none t (Session a b ca cb o) = refl
 reported-none t (Purge p) = refl
+reported-none t (Deliver p) = refl
 
 pub refused-counts : (t : List ℕ) (x : Action) → refusedBy (reply t x) ≡ oneIf (refusal t x)
 unfolding reply
@@ -105,14 +107,30 @@ module _ (t : List ℕ) (sound : Sound t) (l v : List ℕ) (sum : ℕ) (b : Begi
       let action : Write node timestamp block verdict ≡ writeOf (valuesOf l) = said ∙ ap writeOf ev in
       turned-act t sound l (ap (λ (a : Action). Act (record { line = 1; action = a })) action ∙ line) small done counts
 
--- a purge's six characters
-module _ (t : List ℕ) (sound : Sound t) (l : List ℕ) (b : Begins l 6 51) (x : ℕ) (e : x ≡ shortOf l) where
-  pub purge-unsure : 1024 ≤ x → Turned t (readLine 1 l) 2 t
-  purge-unsure h = turned-none t sound l (short-refused l x e h (omega (arith, b .is-long)))
+-- six characters: a purge's, a delivery's, a start's, or a refused line's
+module _ (t : List ℕ) (sound : Sound t) (l : List ℕ) (long : length l ≡ 6) (x : ℕ) (e : x ≡ shortOf l) where
+  pub short-unsure : 65536 ≤ x → Turned t (readLine 1 l) 2 t
+  short-unsure h = turned-none t sound l (short-refused l x e h (omega arith))
 
-  pub purge-turned : x < 1024 → {k : ℕ} {r : Reply} {t′ : List ℕ} → Applied t (Purge (x % 256)) r t′ → k ≡ refusedBy r → Turned t (readLine 1 l) k t′
-  purge-turned h done counts =
+  module _ (h : x < 65536) {k : ℕ} {r : Reply} {t′ : List ℕ} (counts : k ≡ refusedBy r) where
+    pub purge-turned : x / 256 ≡ 3 → Applied t (Purge (x % 256)) r t′ → Turned t (readLine 1 l) k t′
+    purge-turned is done = turned-act t sound l (purge-line l long x e h 1 is) (omega arith) done counts
+
+    pub delivery-turned : x / 256 ≡ 5 → Applied t (Deliver (x % 256)) r t′ → Turned t (readLine 1 l) k t′
+    delivery-turned is done = turned-act t sound l (deliver-line l long x e h 1 is) (omega arith) done counts
+
+  -- an accepted one that is neither a purge's nor a delivery's is a start's
+  start-left : x < 65536 → (x / 256 ≡ 3 → ⊥) → (x / 256 ≡ 5 → ⊥) → x / 256 ≡ 0
+  start-left h p q =
       let g = short-tells l x e h .0 in
-      let is = kind-chars l (omega (arith, b .is-long)) 3 (omega arith) (b .has-high) (b .has-low) in
-      let kind : x / 256 ≡ 3 = omega (arith, is, short-tells l x e h .1, field-small l g (b .is-long)) in
-      turned-act t sound l (purge-line l (b .is-long) x e h 1 kind) (omega arith) done counts
+      let kind = held-kind l x e (omega arith) h in
+      let left : lineKind (bytesOf l) ≡ 0 =
+      kind-lengths (λ (k n : ℕ). length l ≡ n → (k ≡ 3 → ⊥) → (k ≡ 5 → ⊥) → k ≡ 0) (λ d a b. refl) (λ d a b. absurd (omega arith))
+      (λ d a b. absurd (omega arith)) (λ d a b. absurd (a refl)) (λ d a b. absurd (b refl)) (lineKind (bytesOf l)) (g .has-kind) (g .long)
+      (λ is. p (kind ∙ is)) (λ is. q (kind ∙ is)) in
+      kind ∙ left
+
+  pub start-unsure : x < 65536 → (x / 256 ≡ 3 → ⊥) → (x / 256 ≡ 5 → ⊥) → Turned t (readLine 1 l) 2 t
+  start-unsure h p q =
+      let is = start-line l long x e h 1 (start-left h p q) in
+      record { tells = ap (toldOf t) is; leaves = ap (leftBy t) is; isSound = sound }

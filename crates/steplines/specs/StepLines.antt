@@ -7,7 +7,7 @@ use lib.ListN.{length, getD}
 use Rattle.meaning.specs.declared.Line.{Line}
 use Rattle.meaning.specs.declared.Line.the-variants.{Begin, Act, Refused}
 use Rattle.meaning.specs.declared.Reply.{Reply}
-use Rattle.meaning.specs.declared.Reply.the-variants.{Written, Carried, Purged, Refused as RefusedWith}
+use Rattle.meaning.specs.declared.Reply.the-variants.{Written, Carried, Purged, Delivered, Refused as RefusedWith}
 use Rattle.meaning.specs.Table.{Sound}
 use Rattle.meaning.specs.Steps.{refusal}
 use Rattle.meaning.specs.Journals.{oneIf}
@@ -18,6 +18,7 @@ abbrev pub refusedBy : Reply → ℕ
 refusedBy Written = 0
 refusedBy (Carried a b) = 0
 refusedBy (Purged k q) = 0
+refusedBy (Delivered k) = 0
 refusedBy (RefusedWith k) = 1
 
 -- 1 for a refused step, 0 for one that is done, 2 for a line that is none

@@ -1,7 +1,8 @@
-// The step of one line that is known to be as long as a write's or a purge's and to begin with its kind: the step's function takes the numbers of
-// the digits. What is not told so to be a step is left to the reader of lines. A session's line is `sessionline`'s.
+// The step of one line that is known to be as long as a write's and to begin with its kind, or to have six characters: the step's function takes
+// the numbers of the digits. What is not told so to be a step is left to the reader of lines. A session's line is `sessionline`'s.
 // Inner functions of the loop over a journal's lines: what they require, it shows.
 ghost use mathlib.Core.Path.{_≡_};
+ghost use lib.ListN.{length};
 ghost use Rattle.meaning.specs.Table.{Sound};
 ghost use Rattle.meaning.specs.Frames.{readLine};
 ghost use Rattle.steplines.specs.StepLines.{refusedBy, Turned, Begins};
@@ -23,6 +24,7 @@ pub fn count(r: Reply) -> usize
         Reply::Written => 0,
         Reply::Carried { a: _, b: _ } => 0,
         Reply::Purged { .. } => 0,
+        Reply::Delivered { .. } => 0,
         Reply::Refused { number: _ } => 1,
     }
 }
@@ -46,15 +48,19 @@ pub fn write_line(s: &[u8], t: &mut [u32]) -> usize
     count(r)
 }
 
-// The step of a purge's six characters.
-pub fn purge_line(s: &[u8], t: &mut [u32]) -> usize
-    requires { ⌜ Sound (now t) × Begins (now s) 6 51 ⌝ }
+// The step of six characters: a purge's or a delivery's. A start is none.
+pub fn short_step(s: &[u8], t: &mut [u32]) -> usize
+    requires { ⌜ Sound (now t) × (length (now s) ≡ 6) ⌝ }
     ensures { λ r. ⌜ Turned (now (t .entry)) (readLine 1 (now (s .entry))) r (now (t .exit)) ⌝ }
 {
     let x = short_line(s[0], s[1], s[2], s[3], s[4], s[5]);
     if NO_LINE <= x {
         return UNSURE;
     }
-    let r = purges::purge(t, (x % 256) as u8);
-    count(r)
+    let node = (x % 256) as u8;
+    match x / 256 {
+        3 => count(purges::purge(t, node)),
+        5 => count(deliveries::deliver_alone(t, node)),
+        _ => UNSURE,
+    }
 }

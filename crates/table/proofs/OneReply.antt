@@ -15,6 +15,10 @@ use Rattle.table.proofs.act.session.Kinds as session-kinds
 use Rattle.table.proofs.act.session.Reads as session
 use Rattle.table.proofs.act.purge.Kinds as purge-kinds
 use Rattle.table.proofs.act.purge.Reads as purge
+use Rattle.table.proofs.act.deliver.Kinds as deliver-kinds
+use Rattle.table.proofs.act.deliver.Reads as deliver
+use Rattle.table.proofs.act.deliver_alone.Kinds as deliver-alone-kinds
+use Rattle.table.proofs.act.deliver_alone.Reads as deliver-alone
 use Rattle.table.proofs.apply_sound.Kinds as apply-sound-kinds
 use Rattle.table.proofs.apply_sound.Reads as apply-sound
 
@@ -39,6 +43,14 @@ one-session κs a x y s s' p q = same p q
 
 pub one-purge : OneReply 1 purge-kinds.ps purge-kinds.r purge.Post {R = Applied} (λ κs x s. (x, now (s .0)))
 one-purge κs a x y s s' p q = same p q
+
+-- of a delivery the words of the list at exit too
+pub one-deliver : OneReply 2 deliver-kinds.ps deliver-kinds.r deliver.Post {R = Applied × List ℕ} (λ κs x s. ((x, now (s .0)), now (s .1 .0)))
+one-deliver κs a x y s s' p q =
+    ap₂ (λ (z : Applied) (l : List ℕ). (z, l)) (same (p .0, p .1) (q .0, q .1)) (p .2 ∙ sym (q .2))
+
+pub one-deliver-alone : OneReply 1 deliver-alone-kinds.ps deliver-alone-kinds.r deliver-alone.Post {R = Applied} (λ κs x s. (x, now (s .0)))
+one-deliver-alone κs a x y s s' p q = same p q
 
 pub one-sound-step : OneReply 1 apply-sound-kinds.ps apply-sound-kinds.r apply-sound.Post {R = Applied} (λ κs x s. (x, now (s .0)))
 one-sound-step κs a x y s s' p q = same p q

@@ -51,6 +51,7 @@ pub fn apply_sound(t: &mut [u32], action: Action) -> Reply
             outcome,
         } => sessions::session(t, a, b, ca, cb, outcome),
         Action::Purge { node } => purges::purge(t, node),
+        Action::Deliver { node } => deliveries::deliver_alone(t, node),
     }
 }
 

@@ -38,9 +38,13 @@ module _ (high low : ℕ) where
   unfolding dueBy
   due-purge p q = rw (p, q)
 
-  pub due-other : high ≡ 48 → (low ≡ 49 → ⊥) → (low ≡ 50 → ⊥) → (low ≡ 51 → ⊥) → dueBy high low ≡ 0
+  pub due-delivery : high ≡ 48 → low ≡ 53 → dueBy high low ≡ 6
   unfolding dueBy
-  due-other p a b c = cc (eq-eqb high 48 p, ne-eqb low 49 a, ne-eqb low 50 b, ne-eqb low 51 c)
+  due-delivery p q = rw (p, q)
+
+  pub due-other : high ≡ 48 → (low ≡ 49 → ⊥) → (low ≡ 50 → ⊥) → (low ≡ 51 → ⊥) → (low ≡ 53 → ⊥) → dueBy high low ≡ 0
+  unfolding dueBy
+  due-other p a b c d = cc (eq-eqb high 48 p, ne-eqb low 49 a, ne-eqb low 50 b, ne-eqb low 51 c, ne-eqb low 53 d)
 
   pub due-none : (high ≡ 48 → ⊥) → dueBy high low ≡ 0
   unfolding dueBy
@@ -48,25 +52,20 @@ module _ (high low : ℕ) where
 
   -- and what the digits tell of the characters
   abbrev Told : ℕ → Type 0
-  Told due =
-      ((due ≡ 0 → ⊥) → 6 ≤ due) × (due ≡ 24 → (high ≡ 48) × (low ≡ 49)) × (due ≡ 26 → (high ≡ 48) × (low ≡ 50)) × (due ≡ 6 → (high ≡ 48) × (low ≡ 51))
+  Told due = ((due ≡ 0 → ⊥) → 6 ≤ due) × (due ≡ 24 → (high ≡ 48) × (low ≡ 49)) × (due ≡ 26 → (high ≡ 48) × (low ≡ 50))
 
   pub due-tells : Told (dueBy high low)
   unfolding dueBy
-  due-tells = go (eqb high 48) (eqb low 49) (eqb low 50) (eqb low 51) refl refl refl refl
+  due-tells = go (eqb high 48) (eqb low 49) (eqb low 50) (eqb low 51) (eqb low 53) refl refl refl
     where
-      go : (a b c d : Bool) → eqb high 48 ≡ a → eqb low 49 ≡ b → eqb low 50 ≡ c → eqb low 51 ≡ d
-          → Told (cond a (cond b 24 (cond c 26 (cond d 6 0))) 0)
-      go true true c d p q r s =
-          (λ n. omega arith, λ e. (eqb-true high 48 p, eqb-true low 49 q), λ e. absurd (omega arith), λ e. absurd (omega arith))
-      go true false true d p q r s =
-          (λ n. omega arith, λ e. absurd (omega arith), λ e. (eqb-true high 48 p, eqb-true low 50 r), λ e. absurd (omega arith))
-      go true false false true p q r s =
-          (λ n. omega arith, λ e. absurd (omega arith), λ e. absurd (omega arith), λ e. (eqb-true high 48 p, eqb-true low 51 s))
-      go true false false false p q r s =
-          (λ n. absurd (omega arith), λ e. absurd (omega arith), λ e. absurd (omega arith), λ e. absurd (omega arith))
-      go false b c d p q r s =
-          (λ n. absurd (omega arith), λ e. absurd (omega arith), λ e. absurd (omega arith), λ e. absurd (omega arith))
+      go : (a b c d e : Bool) → eqb high 48 ≡ a → eqb low 49 ≡ b → eqb low 50 ≡ c
+          → Told (cond a (cond b 24 (cond c 26 (cond d 6 (cond e 6 0)))) 0)
+      go true true c d e p q r = (λ n. omega arith, λ z. (eqb-true high 48 p, eqb-true low 49 q), λ z. absurd (omega arith))
+      go true false true d e p q r = (λ n. omega arith, λ z. absurd (omega arith), λ z. (eqb-true high 48 p, eqb-true low 50 r))
+      go true false false true e p q r = (λ n. omega arith, λ z. absurd (omega arith), λ z. absurd (omega arith))
+      go true false false false true p q r = (λ n. omega arith, λ z. absurd (omega arith), λ z. absurd (omega arith))
+      go true false false false false p q r = (λ n. absurd (omega arith), λ z. absurd (omega arith), λ z. absurd (omega arith))
+      go false b c d e p q r = (λ n. absurd (omega arith), λ z. absurd (omega arith), λ z. absurd (omega arith))
 
 -- an LF after so many characters, another byte there, or none
 module _ (s : List ℕ) (at due : ℕ) where
@@ -158,8 +157,11 @@ module _ (s : List ℕ) (at : ℕ) where
     pub ended-session : due ≡ 26 → Ended due 50
     ended-session is = ended-by 50 (omega arith) (tells-of (λ z. omega arith) .2 is)
 
-    pub ended-purge : due ≡ 6 → Ended due 51
-    ended-purge is = ended-by 51 (omega arith) (tells-of (λ z. omega arith) .3 is)
+    -- of six characters only so many are known
+    pub ended-short : due ≡ 6 → (at + due < length s) × (length (take due (drop at s)) ≡ 6)
+    ended-short is =
+        let room = due-room (λ z. omega arith) in
+        (room, length-take-le due (drop at s) (omega (arith, length-drop at s)) ∙ is)
 
 -- digits hold no LF, so that the first LF is the one after them
 not-LF : (c : ℕ) → digitValue c < 16 → c ≡ 10 → ⊥
@@ -229,6 +231,9 @@ module _ (s : List ℕ) (at due : ℕ) (e : due ≡ dueAt s at) where
   part-begins k low is x =
       let part = part-is k is in
       record { is-long = ap length part ∙ x .begins .is-long ∙ is; has-high = rw part (x .begins .has-high); has-low = rw part (x .begins .has-low) }
+
+  pub part-short : due ≡ 6 → length (take (at + 6 - at) (drop at s)) ≡ 6
+  part-short is = ap length (part-is 6 is) ∙ ended-short s at due e is .1
 
   pub part-turned : (k : ℕ) → due ≡ k → {t : List ℕ} {told : ℕ} {t′ : List ℕ} → Turned t (readLine 1 (take (at + k - at) (drop at s))) told t′
       → Turned t (saidAt s at) told t′

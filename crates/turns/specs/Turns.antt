@@ -7,9 +7,9 @@ use lib.Dec.{eqb}
 use Rattle.meaning.specs.declared.Line.{Line}
 use Rattle.meaning.specs.Frames.{readLine}
 
--- the digits of a write, a session and a purge by their kind's two characters, 0 for any others
+-- the digits of a write, a session, a purge and a delivery by their kind's two characters, 0 for any others
 unfoldable pub dueBy : ℕ → ℕ → ℕ
-dueBy high low = cond (eqb high 48) (cond (eqb low 49) 24 (cond (eqb low 50) 26 (cond (eqb low 51) 6 0))) 0
+dueBy high low = cond (eqb high 48) (cond (eqb low 49) 24 (cond (eqb low 50) 26 (cond (eqb low 51) 6 (cond (eqb low 53) 6 0)))) 0
 
 -- so many characters where an LF stands after them, 0 where none does
 unfoldable pub endsAt : List ℕ → ℕ → ℕ → ℕ

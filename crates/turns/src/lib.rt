@@ -9,7 +9,7 @@ ghost use Rattle.steplines.specs.StepLines.{Turned};
 ghost use Rattle.turns.specs.Turns.{endsAt, dueAt, saidAt};
 use sessionline::session_line;
 use steplines::UNSURE;
-use steplines::purge_line;
+use steplines::short_step;
 use steplines::write_line;
 
 // So many characters, where an LF ends them.
@@ -41,6 +41,7 @@ pub fn due_at(s: &[u8], at: usize) -> usize
         b'1' => ends_at(s, at, 24),
         b'2' => ends_at(s, at, 26),
         b'3' => ends_at(s, at, 6),
+        b'5' => ends_at(s, at, 6),
         _ => 0,
     }
 }
@@ -54,7 +55,7 @@ pub fn turn(s: &[u8], at: usize, due: usize, t: &mut [u32]) -> usize
     match due {
         24 => write_line(&s[at..at + 24], t),
         26 => session_line(&s[at..at + 26], t),
-        6 => purge_line(&s[at..at + 6], t),
+        6 => short_step(&s[at..at + 6], t),
         _ => UNSURE,
     }
 }

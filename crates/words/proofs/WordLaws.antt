@@ -1,4 +1,4 @@
--- Laws of a line's six words: a start's and a purge's, those put into more, and what is told of fewer.
+-- Laws of a line's six words: a start's, a purge's and a delivery's, those put into more, and what is told of fewer.
 use mathlib.Core.Path.{_≡_, refl, sym, _∙_, ap}
 use mathlib.Core.Bool.{Bool, true, false}
 use mathlib.Core.List.{List, [], _∷_, _++_}
@@ -28,14 +28,14 @@ use Rattle.meaning.specs.Frames.{
 }
 use Rattle.meaning.proofs.FrameLaws.{kind-cases, words-refused, words-few, words-full}
 use Rattle.meaning.proofs.PlaceLaws.{mid-place}
-use Rattle.heads.specs.Heads.{shortOf}
+use Rattle.heads.specs.Heads.{noLine, shortOf}
 use Rattle.heads.proofs.HeadLaws.{accepted-clear, accepted-refused}
 use Rattle.heads.proofs.QuickLaws.{short-tells, held-six, held-kind, held-not}
-use Rattle.heads.proofs.SaidLaws.{purge-line, start-line}
+use Rattle.heads.proofs.SaidLaws.{purge-line, deliver-line, start-line}
 use Rattle.six.specs.Six.{Puts}
 
--- the six values of a start and of a purge, by what the line holds
-module _ (l : List ℕ) (x : ℕ) (e : x ≡ shortOf l) (few : length l < 24) (h : x < 1024) where
+-- the six values of a start, of a purge and of a delivery, by what the line holds
+module _ (l : List ℕ) (x : ℕ) (e : x ≡ shortOf l) (few : length l < 24) (h : x < noLine) where
   pub six-short : x / 256 ∷ x % 256 ∷ 0 ∷ 0 ∷ 0 ∷ 0 ∷ [] ≡ sixValues l
   unfolding sixValues padded digitsIn widthsIn journalKinds
   six-short = go (lineKind (bytesOf l)) refl (short-tells l x e h .0 .has-kind) (held-not l x e few h 1) (held-not l x e few h 2)
@@ -57,6 +57,7 @@ module _ (l : List ℕ) (x : ℕ) (e : x ≡ shortOf l) (few : length l < 24) (h
           (λ z. absurd (one (omega arith) z))
           (λ z. absurd (two (omega arith) z))
           (λ z. ap said (at 3 z) ∙ ap (λ (y : Line). padded 6 (drop 2 (lineValues y))) (purge-line l six x e h 0 (at 3 z)))
+          (λ z. ap said (at 5 z) ∙ ap (λ (y : Line). padded 6 (drop 2 (lineValues y))) (deliver-line l six x e h 0 (at 5 z)))
           k has is
 
 -- a line's six values are six

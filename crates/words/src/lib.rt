@@ -8,7 +8,7 @@ ghost use Rattle.six.specs.Six.{Puts};
 use meaning::Fault;
 use six::put;
 
-// Fewer characters than a write's: a start's, a purge's, or none.
+// Fewer characters than a write's: a start's, a purge's, a delivery's, or none.
 fn put_short(s: &[u8], words: &mut [u32]) -> bool
     requires { ⌜ (length (now s) < 24) × (length (now words) ≡ 6) ⌝ }
     ensures { λ r. ⌜ Puts (now (s .entry)) (now (words .entry)) r (now (words .exit)) ⌝ }

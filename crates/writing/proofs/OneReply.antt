@@ -13,6 +13,8 @@ use Rattle.writing.proofs.write.session.Kinds as session-kinds
 use Rattle.writing.proofs.write.session.Reads as session
 use Rattle.writing.proofs.write.purge.Kinds as purge-kinds
 use Rattle.writing.proofs.write.purge.Reads as purge
+use Rattle.writing.proofs.write.deliver.Kinds as deliver-kinds
+use Rattle.writing.proofs.write.deliver.Reads as deliver
 use Rattle.writing.proofs.write_start.Kinds as write-start-kinds
 use Rattle.writing.proofs.write_start.Reads as write-start
 
@@ -34,6 +36,9 @@ one-session-frame κs a x y s s' p q = same p q
 
 pub one-purge-frame : OneReply 1 purge-kinds.ps purge-kinds.r purge.Post {R = Written} (λ κs x s. (x, now (s .0)))
 one-purge-frame κs a x y s s' p q = same p q
+
+pub one-delivery-frame : OneReply 1 deliver-kinds.ps deliver-kinds.r deliver.Post {R = Written} (λ κs x s. (x, now (s .0)))
+one-delivery-frame κs a x y s s' p q = same p q
 
 pub one-start-frame : OneReply 1 write-start-kinds.ps write-start-kinds.r write-start.Post {R = Written} (λ κs x s. (x, now (s .0)))
 one-start-frame κs a x y s s' p q = same p q

@@ -27,6 +27,7 @@ pub fn write_step(out: &mut [u8], step: Step) -> Framed
             outcome,
         } => write::session(out, a, b, ca, cb, outcome),
         Action::Purge { node } => write::purge(out, node),
+        Action::Deliver { node } => write::deliver(out, node),
     }
 }
 

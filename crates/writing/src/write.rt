@@ -1,7 +1,7 @@
 // The writers of each kind of frame, by its fields, as numbers, so that no step is built in memory and read back: what C calls.
 ghost use mathlib.Core.Path.{_≡_};
 ghost use mathlib.Core.Bool.{true};
-ghost use Rattle.meaning.specs.declared.Action.the-variants.{Write, Session, Purge};
+ghost use Rattle.meaning.specs.declared.Action.the-variants.{Write, Session, Purge, Deliver};
 ghost use Rattle.meaning.specs.Table.{countRight};
 ghost use Rattle.meaning.specs.Frames.{Wrote, Began};
 use frames::put_session;
@@ -42,6 +42,17 @@ pub fn purge(out: &mut [u8], node: u8) -> Framed
         return Framed::Refused { number: 17 };
     }
     put_short(out, 3, node);
+    Framed::Length { bytes: 7 }
+}
+
+// A delivery's frame into lent bytes: 17 where they are too few.
+pub fn deliver(out: &mut [u8], node: u8) -> Framed
+    ensures { λ r. ⌜ Wrote (now (out .entry)) (Deliver node) r (now (out .exit)) ⌝ }
+{
+    if out.len() < 7 {
+        return Framed::Refused { number: 17 };
+    }
+    put_short(out, 5, node);
     Framed::Length { bytes: 7 }
 }
 

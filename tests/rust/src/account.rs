@@ -1,18 +1,21 @@
-//! Demand 3 as a run: the plain account that never drops a record, kept beside the table, and the
-//! three facts that tie it to every node's summary and log.
+//! Demand 3 and the same order everywhere, as a run: the plain account that never drops a record and each
+//! node's delivered list, kept beside the table, and the facts that tie them to every node's summary, log and mark.
 
 use crate::model::{Action, Record, Table};
 
+#[derive(Clone)]
 pub struct Account {
     /// Every accepted write.
     written: Vec<Record>,
     /// Each node's account: places in `written`, in order of arrival, and the same as a set.
     nodes: Vec<(Vec<usize>, Vec<bool>)>,
+    /// What each node was given, all its deliveries one after the other.
+    delivered: Vec<Vec<Record>>,
 }
 
 impl Account {
     pub fn fresh(n: usize) -> Account {
-        Account { written: Vec::new(), nodes: vec![(Vec::new(), Vec::new()); n] }
+        Account { written: Vec::new(), nodes: vec![(Vec::new(), Vec::new()); n], delivered: vec![Vec::new(); n] }
     }
 
     /// Takes in an accepted step: "a node gains its own writes, and from each session it finishes
@@ -33,8 +36,13 @@ impl Account {
                 for_a.into_iter().for_each(|r| self.gain(a, r));
                 for_b.into_iter().for_each(|r| self.gain(b, r));
             }
-            Action::Purge { .. } => {}
+            Action::Purge { .. } | Action::Deliver { .. } => {}
         }
+    }
+
+    /// Takes in what an accepted delivery wrote.
+    pub fn delivered(&mut self, p: usize, list: &[Record]) {
+        self.delivered[p].extend_from_slice(list);
     }
 
     fn gain(&mut self, p: usize, record: usize) {
@@ -44,6 +52,25 @@ impl Account {
 
     fn lacking(&self, mine: usize, theirs: usize) -> Vec<usize> {
         self.nodes[theirs].0.iter().filter(|&&r| !self.nodes[mine].1[r]).copied().collect()
+    }
+
+    /// "For any two nodes, one's delivered list must be a beginning of the other's": what fails of it at node p, if anything. And what
+    /// it comes from: the list is the written records that are not above the mark, by timestamp and origin; none above it has left the log.
+    pub fn out_of_order(&self, table: &Table, p: usize) -> Option<String> {
+        let (mine, mark) = (&self.delivered[p], table.marks[p]);
+        for (q, theirs) in self.delivered.iter().enumerate() {
+            let both = mine.len().min(theirs.len());
+            if mine[..both] != theirs[..both] {
+                return Some(format!("of nodes {p} and {q} neither delivered list is a beginning of the other"));
+            }
+        }
+        let mut all: Vec<Record> = self.written.iter().filter(|r| r.timestamp <= mark).copied().collect();
+        all.sort_by_key(|r| (r.timestamp, r.origin));
+        if all != *mine {
+            return Some(format!("node {p}: its delivered list is not what was written up to its mark {mark}"));
+        }
+        let gone = self.nodes[p].0.iter().map(|&i| &self.written[i]).find(|r| r.timestamp > mark && !table.log(p).contains(r));
+        gone.map(|r| format!("node {p} dropped {r:?} before it was delivered"))
     }
 
     /// The first of the three facts that fails at node p, if any.

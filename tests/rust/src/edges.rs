@@ -1,11 +1,12 @@
-//! The section "Both sides of each edge" of document 01 and its sample journal, with the numbers
-//! written out: the library and the model must both say them.
+//! The section "Both sides of each edge" of document 01, its sample journal and what document 02 adds, with the
+//! numbers written out: the library and the model must both say them.
 
 use crate::account::Account;
 use crate::layout::{NODES, WORDS};
 use crate::library::{Calls, Library, TEXT};
 use crate::lines::LINE_ANSWERS;
-use crate::model::{count, fresh, read, replay, Action, Table};
+use crate::model::{count, fresh, read, replay, Action, Record, Table};
+use crate::steps::lent;
 
 fn write(node: u8, timestamp: u32) -> Action {
     Action::Write { node, timestamp, block: 7, verdict: 0x20 }
@@ -40,6 +41,7 @@ fn steps(library: &mut Library, name: &str, mut table: Table, list: &[(Action, [
             Action::Write { .. } => &[],
             Action::Session { .. } => &[reply.to_a, reply.to_b],
             Action::Purge { .. } => &[reply.removed, reply.lags],
+            Action::Deliver { .. } => unreachable!("deliveries are told with their lists"),
         };
         let right = reply.refusal == should[0] && counts == &should[1..=counts.len()] && is[0] == should[0] && is[1..=counts.len()] == *counts && after == words;
         if !right {
@@ -53,12 +55,16 @@ fn all_steps(library: &mut Library) -> Result<(), String> {
     let two = || fresh(WORDS, 2).unwrap();
     let mut acknowledged = holding(6);
     acknowledged.acknowledgements[0] = vec![5; NODES];
+    let mut early = acknowledged.clone();
+    (acknowledged.marks[0], early.marks[0], early.acknowledgements[0][0]) = (6, 3, 6);
     steps(library, "write at 0, 1, 1", two(), &[(write(0, 0), [5, 0, 0]), (write(0, 1), [0, 0, 0]), (write(0, 1), [5, 0, 0])])?;
     steps(library, "0 with 0", two(), &[(session(0, 0, 0, 0, 3), [4, 0, 0]), (write(0, 9), [0, 0, 0]), (session(0, 0, 1, 99, 3), [4, 0, 0])])?;
     steps(library, "node 2, outcome 4", two(), &[(write(2, 1), [3, 0, 0]), (session(0, 2, 1, 1, 3), [3, 0, 0]), (session(2, 2, 1, 1, 4), [2, 0, 0])])?;
     steps(library, "equal readings", two(), &[(write(0, 1), [0, 0, 0]), (session(0, 1, 0, 0, 3), [5, 0, 0]), (session(0, 1, 1, 0, 3), [0, 0, 1])])?;
     steps(library, "outcome 0", holding(2), &[(session(0, 1, 5, 6, 0), [0, 0, 0])])?;
     steps(library, "smallest acknowledgement 5", acknowledged, &[(Action::Purge { node: 0 }, [0, 5, 0]), (Action::Purge { node: 1 }, [0, 0, 0])])?;
+    // the mark keeps the records at 4 and 5, and node 1, the lowest with the smallest acknowledgement, is told
+    steps(library, "the same, delivered up to 3", early, &[(Action::Purge { node: 0 }, [0, 3, 1]), (Action::Purge { node: 0 }, [0, 0, 1])])?;
     // who lags: all equal, the last, two, one of 16; an entry beyond n takes no part; a refused purge tells node 0
     for (n, row, lags) in [
         (3, vec![5, 5, 5], 0),
@@ -83,13 +89,62 @@ fn all_steps(library: &mut Library) -> Result<(), String> {
     steps(library, "the largest timestamp", two(), &largest)
 }
 
+/// A table of 3 with node 0 at a mark of 4 and summary entries 9, 7, 8: of its records those at 5, 7, 7 and 7 are due.
+fn waiting() -> Table {
+    let mut table = fresh(WORDS, 3).unwrap();
+    table.summaries[0][..3].copy_from_slice(&[9, 7, 8]);
+    table.marks[0] = 4;
+    for (i, (origin, timestamp)) in [(2, 7), (1, 8), (1, 7), (0, 4), (2, 5), (1, 7)].into_iter().enumerate() {
+        table.logs[0][i] = Record { origin, timestamp, block: i as u32, verdict: 0x20 };
+    }
+    table.held[0] = 6;
+    table
+}
+
+/// Deliveries of one table: its name, the node, the words lent, what it says, the blocks of the list in order, and the mark after.
+type Delivery = (&'static str, u8, u32, [u32; 2], &'static [u32], u32);
+const DELIVERIES: [Delivery; 7] = [
+    ("by timestamp, then origin, then the log", 0, 16, [0, 4], &[4, 2, 5, 0], 7),
+    ("a longer list", 0, 259, [0, 4], &[4, 2, 5, 0], 7),
+    ("one word short", 0, 15, [7, 0], &[], 4),
+    ("no list", 0, 0, [7, 0], &[], 4),
+    ("none due", 1, 0, [0, 0], &[], 0),
+    ("node 3", 3, 0, [3, 0], &[], 4),
+    ("node 3, a long list", 3, 256, [3, 0], &[], 4),
+];
+
+fn all_deliveries(library: &mut Library) -> Result<(), String> {
+    for (name, node, many, should, blocks, mark) in DELIVERIES {
+        let (mut table, mut words, mut list) = (waiting(), Vec::new(), lent(many));
+        table.to_words(&mut words);
+        let mut calls = Calls::default();
+        calls.table(&words);
+        calls.deliver(node, &list);
+        let mut answers = library.run(&calls).ok_or("the library was killed")?;
+        let reply = table.deliver(node, &mut list).map_or_else(|refusal| [refusal, 0], |reply| [0, reply.delivered]);
+        let listed: Vec<u32> = list.chunks(4).take(blocks.len()).map(|r| r[2]).collect();
+        table.to_words(&mut words);
+        let (is, its_list, after) = (answers.words(3), answers.words(many as usize), answers.words(WORDS));
+        if reply != should || listed != blocks || table.marks[usize::from(node) % 3] != mark || is[..2] != should || its_list != list || after != words {
+            return Err(format!("a delivery, {name}: it should say {should:?} and {blocks:?}; the library says {is:?}, the model {reply:?} and {listed:?}"));
+        }
+        let again = table.deliver(node, &mut []).map_or_else(|refusal| refusal, |reply| reply.delivered);
+        if should[0] == 0 && again != 0 {
+            return Err(format!("a delivery, {name}: once more, and there is something due"));
+        }
+    }
+    Ok(())
+}
+
 /// Lines with their refusal and its place, both sides of each edge.
-const LINES: [(&[u8], u32, u32); 36] = [
+const LINES: [(&[u8], u32, u32); 44] = [
     (b"0002FE", 0, 0),
     (b"0010F0", 0, 0),
     (b"0100000000050000001010DA", 0, 0),
     (b"020001000000060000000403F0", 0, 0),
     (b"0300FD", 0, 0),
+    (b"0500FB", 0, 0),
+    (b"05FFFC", 0, 0),
     // 12: a character that is no digit, at the first, a middle and the last place; before every other fault
     (b"0002fe", 12, 4),
     (b"0002FE ", 12, 6),
@@ -109,6 +164,8 @@ const LINES: [(&[u8], u32, u32); 36] = [
     (b"0400FC", 11, 0),
     (b"0400FF", 11, 0),
     (b"FF0001", 11, 0),
+    (b"06", 11, 0),
+    (b"0600FA", 11, 0),
     // 19: a purge of 4 and 8 digits, a write of 22, 26 and 28, a session of 24, a kind alone
     (b"03", 19, 2),
     (b"0300", 19, 4),
@@ -117,6 +174,9 @@ const LINES: [(&[u8], u32, u32); 36] = [
     (b"0100000000050000001010DA00", 19, 24),
     (b"0100000000050000001010DA0000", 19, 24),
     (b"0200010000000600000004F0", 19, 24),
+    (b"05", 19, 2),
+    (b"0500", 19, 4),
+    (b"0500FB00", 19, 6),
     // 20: an outcome of 3, 4 and 255, before the sum
     (b"020001000000060000000404EF", 20, 22),
     (b"020001000000060000000404F0", 20, 22),
@@ -125,6 +185,7 @@ const LINES: [(&[u8], u32, u32); 36] = [
     (b"0002FF", 13, 4),
     (b"0100000000050000001010DB", 13, 22),
     (b"020001000000060000000403F1", 13, 24),
+    (b"0500FC", 13, 4),
     // 15: a start's n is not 2 to 16
     (b"0001FF", 15, 0),
     (b"0011EF", 15, 0),
@@ -162,14 +223,27 @@ fn all_verdicts(library: &mut Library) -> Result<(), String> {
 }
 
 const SAMPLE: &[u8] = b"0002FE\n0100000000050000001010DA\n020001000000060000000403F0\n020001000000070000000701EE\n0300FD\n020001000000080000000803EA\n0300FD\n";
-const PRINTED: &str = "N 2 STEPS 6 REFUSED 0\n0 S 8 8 K 7 6 L 0\n1 S 8 8 K 7 6 L 1\n";
+const PRINTED: &str = "N 2 STEPS 6 REFUSED 0\n0 S 8 8 K 7 6 L 1\n1 S 8 8 K 7 6 L 1\n";
+
+/// The same with a delivery before its last line.
+const DELIVERED: &[u8] = b"0002FE\n0100000000050000001010DA\n020001000000060000000403F0\n020001000000070000000701EE\n0300FD\n020001000000080000000803EA\n0500FB\n0300FD\n";
+const PRINTED_DELIVERED: &str = "N 2 STEPS 7 REFUSED 0\n0 S 8 8 K 7 6 L 0\n1 S 8 8 K 7 6 L 1\n";
 
 /// Small journals for the program itself.
-pub const JOURNALS: [&[u8]; 5] = [SAMPLE, b"", b"\n", b"0002FE\n", b"0002FE"];
+pub const JOURNALS: [&[u8]; 6] = [SAMPLE, DELIVERED, b"", b"\n", b"0002FE\n", b"0002FE"];
 
 fn all_journals(library: &mut Library) -> Result<(), String> {
     let long = vec![b'0'; 65_537];
-    for (journal, printed) in [(SAMPLE, PRINTED), (b"", "BAD 1 15 0\n"), (b"0002FE\n\n0300FD", "BAD 2 18 0\n"), (b"0002FE\n0300FD\n0300", "BAD 3 14 4\n"), (b"0300FD\n", "BAD 1 15 0\n"), (&long, "BAD 0 16\n"), (&long[1..], "BAD 1 14 65536\n")] {
+    for (journal, printed) in [
+        (SAMPLE, PRINTED),
+        (DELIVERED, PRINTED_DELIVERED),
+        (b"", "BAD 1 15 0\n"),
+        (b"0002FE\n\n0300FD", "BAD 2 18 0\n"),
+        (b"0002FE\n0300FD\n0300", "BAD 3 14 4\n"),
+        (b"0300FD\n", "BAD 1 15 0\n"),
+        (&long, "BAD 0 16\n"),
+        (&long[1..], "BAD 1 14 65536\n"),
+    ] {
         let mut calls = Calls::default();
         calls.replay(journal, WORDS as u32, TEXT);
         let mut answers = library.run(&calls).ok_or("the library was killed")?;
@@ -217,10 +291,41 @@ fn account_tells() -> Result<(), String> {
     }
 }
 
+/// The order's account must be able to fail too: lists of which neither begins the other, a list that lacks a record up to its
+/// mark, a mark that was not raised, and a record purged before it was delivered are each told.
+fn order_tells() -> Result<(), String> {
+    let (mut table, mut account) = (fresh(WORDS, 2).unwrap(), Account::fresh(2));
+    for action in [write(0, 1), write(1, 1), session(0, 1, 2, 2, 3)] {
+        assert_eq!(table.apply(action).refusal, 0);
+        account.accepted(action);
+    }
+    let (due, undelivered) = (table.due(0), table.clone());
+    let mut purged = table.clone();
+    purged.held[1] = 1;
+    let purge_told = account.out_of_order(&purged, 1).is_some() && account.out_of_order(&undelivered, 1).is_none();
+    let told = |first: &[Record], second: &[Record], marks: [u32; 2]| {
+        let (mut account, mut table) = (account.clone(), undelivered.clone());
+        account.delivered(0, first);
+        account.delivered(1, second);
+        table.marks[..2].copy_from_slice(&marks);
+        (0..2).any(|p| account.out_of_order(&table, p).is_some())
+    };
+    let turned = [due[1], due[0]];
+    let right = !told(&due, &due, [2, 2]) && !told(&due, &[], [2, 0]);
+    let wrong = told(&due, &turned, [2, 2]) && told(&turned, &turned, [2, 2]) && told(&due, &due[..1], [2, 2]) && told(&due, &due, [2, 0]);
+    if due.len() == 2 && purge_told && right && wrong {
+        Ok(())
+    } else {
+        Err("the account of the order does not tell right from wrong".into())
+    }
+}
+
 pub fn all(library: &mut Library) -> Result<(), String> {
     account_tells()?;
+    order_tells()?;
     all_counts(library)?;
     all_steps(library)?;
+    all_deliveries(library)?;
     all_lines(library)?;
     all_verdicts(library)?;
     all_journals(library)

@@ -162,7 +162,7 @@ pub fn seed(library: &mut Library, seed: u64, reached: &mut Reached) -> Result<u
     let journal = make(seed);
     let mut rng = Random::new(seed ^ 0x524F_4F4D);
     let (words, room) = match rng.below(40) {
-        0 => (rng.among(&[0, 4624, 4626]), TEXT),
+        0 => (rng.among(&[0, 4625, 4640, 4642]), TEXT),
         1 => (WORDS as u32, rng.among(&[0, 100, TEXT - 1])),
         _ => (WORDS as u32, rng.among(&[TEXT, TEXT, TEXT + 13])),
     };

@@ -1,4 +1,4 @@
-//! The numbers of document 01 that say how large a thing is and where it stands in a table: the one
+//! The numbers of documents 01 and 02 that say how large a thing is and where it stands in a table: the one
 //! file of the Rust programs that knows them.
 #![allow(dead_code)]
 
@@ -18,20 +18,24 @@ pub const SUMMARIES: usize = COUNT + 1;
 pub const ACKNOWLEDGEMENTS: usize = SUMMARIES + NODES * NODES;
 pub const HELD: usize = ACKNOWLEDGEMENTS + NODES * NODES;
 pub const LOGS: usize = HELD + NODES;
-pub const WORDS: usize = LOGS + NODES * ROOM * RECORD;
+pub const MARKS: usize = LOGS + NODES * ROOM * RECORD;
+pub const WORDS: usize = MARKS + NODES;
+
+/// The words of a list that every delivery fits in.
+pub const LIST: usize = ROOM * RECORD;
 
 /// The bytes that a journal may have at most, and those that a replay's text has room in.
 pub const JOURNAL: usize = 65_536;
 pub const TEXT: usize = 12_288;
 
-const _: () = assert!(WORDS == 4_625);
+const _: () = assert!(MARKS == 4_625 && WORDS == 4_641);
 
 /// The word of a record in a log.
 pub fn record_at(p: usize, row: usize, word: usize) -> usize {
     LOGS + RECORD * (ROOM * p + row) + word
 }
 
-/// The place of a word of a table in document 01's terms.
+/// The place of a word of a table in the documents' terms.
 pub fn place(at: usize) -> String {
     let in_rows = |from: usize| ((at - from) / NODES, (at - from) % NODES);
     if at < SUMMARIES {
@@ -47,6 +51,9 @@ pub fn place(at: usize) -> String {
     }
     if at < LOGS {
         return format!("held number of node {}", at - HELD);
+    }
+    if at >= MARKS {
+        return format!("mark of node {}", at - MARKS);
     }
     let row = (at - LOGS) / RECORD;
     format!("log of node {}, row {}, word {}", row / ROOM, row % ROOM, (at - LOGS) % RECORD)

@@ -48,7 +48,13 @@ impl Calls {
             Action::Write { node, timestamp, block, verdict } => self.0.extend([3, node.into(), timestamp, block, verdict.into()]),
             Action::Session { a, b, ca, cb, outcome } => self.0.extend([4, a.into(), b.into(), ca, cb, outcome.into()]),
             Action::Purge { node } => self.0.extend([5, node.into()]),
+            Action::Deliver { .. } => unreachable!("its list is told too"),
         }
+    }
+
+    pub fn deliver(&mut self, node: u8, list: &[u32]) {
+        self.0.extend([15, node.into(), list.len() as u32]);
+        self.0.extend_from_slice(list);
     }
 
     pub fn line(&mut self, line: &[u8]) {
@@ -62,6 +68,7 @@ impl Calls {
             Frame::Step(Action::Write { node, timestamp, block, verdict }) => vec![7, room, 1, node.into(), timestamp, block, verdict.into()],
             Frame::Step(Action::Session { a, b, ca, cb, outcome }) => vec![7, room, 2, a.into(), b.into(), ca, cb, outcome.into()],
             Frame::Step(Action::Purge { node }) => vec![7, room, 3, node.into()],
+            Frame::Step(Action::Deliver { node }) => vec![7, room, 5, node.into()],
         };
         call.resize(8, 0);
         self.0.extend(call);
@@ -179,4 +186,4 @@ fn ask(child: &mut Child) -> std::io::Result<usize> {
 
 /// The most steps whose answers fit.
 pub const BATCH: usize = 48;
-const _: () = assert!(BATCH * (WORDS + 8) * 4 < HALF);
+const _: () = assert!(BATCH * (WORDS + 300 + 8) * 4 < HALF);

@@ -24,9 +24,10 @@ pub fn action(rng: &mut Random) -> Action {
         1 => u32::MAX - rng.below(3),
         _ => rng.word(),
     };
-    match rng.below(3) {
+    match rng.below(4) {
         0 => Action::Write { node: rng.byte(), timestamp: any(rng), block: any(rng), verdict: rng.byte() },
         1 => Action::Session { a: rng.byte(), b: rng.byte(), ca: any(rng), cb: any(rng), outcome: rng.below(4) as u8 },
+        2 => Action::Deliver { node: rng.byte() },
         _ => Action::Purge { node: rng.byte() },
     }
 }
@@ -58,7 +59,7 @@ pub fn line(rng: &mut Random) -> Vec<u8> {
             let many = rng.below(20) as usize;
             let mut bytes: Vec<u8> = (0..many).map(|_| rng.byte()).collect();
             if many > 0 {
-                bytes[0] = rng.below(6) as u8;
+                bytes[0] = rng.below(7) as u8;
             }
             checked(&bytes)
         }
@@ -126,6 +127,7 @@ fn compare_frame(what: Frame, room: usize, answers: &mut Answers, reached: &mut 
                 Action::Write { .. } => "write",
                 Action::Session { .. } => "session",
                 Action::Purge { .. } => "purge",
+                Action::Deliver { .. } => "deliver",
             };
             (name, frame(action))
         }

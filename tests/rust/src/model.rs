@@ -1,9 +1,9 @@
-//! An independent implementation of document 01 in plain Rust: tables as vectors, steps and their
-//! refusals, frames both ways, journals, the replay's text and the verdict count; and of document 02's
-//! T-01 and T-02. It was written from those documents alone and shares nothing with the proved code.
+//! An independent implementation of documents 01 and 02 in plain Rust: tables as vectors, steps and their
+//! refusals, deliveries, frames both ways, journals, the replay's text and the verdict count.
+//! It was written from those documents alone and shares nothing with the proved code.
 #![allow(dead_code)]
 
-use crate::layout::{COUNTS, JOURNAL, NODES, RECORD, ROOM, WORDS};
+use crate::layout::{COUNTS, JOURNAL, LIST, NODES, RECORD, ROOM, WORDS};
 use std::fmt::Write as _;
 
 /// One finding: a row of a log.
@@ -15,7 +15,7 @@ pub struct Record {
     pub verdict: u32,
 }
 
-/// The parts of a table of 4,625 words, those that take no part included.
+/// The parts of a table of 4,641 words, those that take no part included.
 #[derive(Clone, PartialEq, Eq, Debug)]
 pub struct Table {
     pub count: u32,
@@ -23,14 +23,16 @@ pub struct Table {
     pub acknowledgements: Vec<Vec<u32>>,
     pub held: Vec<u32>,
     pub logs: Vec<Vec<Record>>,
+    pub marks: Vec<u32>,
 }
 
-/// The three actions, each with its own fields, as wide as in the frame.
+/// The four actions, each with its own fields, as wide as in the frame.
 #[derive(Clone, Copy, PartialEq, Eq, Debug)]
 pub enum Action {
     Write { node: u8, timestamp: u32, block: u32, verdict: u8 },
     Session { a: u8, b: u8, ca: u32, cb: u32, outcome: u8 },
     Purge { node: u8 },
+    Deliver { node: u8 },
 }
 
 /// What a step says: the refusal number (0 for none) and the counts of its kind.
@@ -41,6 +43,7 @@ pub struct Reply {
     pub to_b: u32,
     pub removed: u32,
     pub lags: u32,
+    pub delivered: u32,
 }
 
 /// A line that was read.
@@ -61,11 +64,12 @@ pub fn fresh(length: usize, count: u32) -> Result<Table, u32> {
         acknowledgements: vec![vec![0; NODES]; NODES],
         held: vec![0; NODES],
         logs: vec![vec![Record::default(); ROOM]; NODES],
+        marks: vec![0; NODES],
     })
 }
 
 impl Table {
-    /// The table that these words spell, if they are 4,625.
+    /// The table that these words spell, if they are 4,641.
     pub fn from_words(words: &[u32]) -> Option<Table> {
         if words.len() != WORDS {
             return None;
@@ -81,10 +85,11 @@ impl Table {
         let acknowledgements = (0..NODES).map(|_| take(NODES).to_vec()).collect();
         let held = take(NODES).to_vec();
         let logs = (0..NODES).map(|_| take(ROOM * RECORD).chunks(RECORD).map(|w| Record { origin: w[0], timestamp: w[1], block: w[2], verdict: w[3] }).collect()).collect();
-        Some(Table { count, summaries, acknowledgements, held, logs })
+        let marks = take(NODES).to_vec();
+        Some(Table { count, summaries, acknowledgements, held, logs, marks })
     }
 
-    /// Writes the words of the table, in the order of document 01's parts, over `out`.
+    /// Writes the words of the table, in the order of its parts, over `out`.
     pub fn to_words(&self, out: &mut Vec<u32>) {
         out.clear();
         out.push(self.count);
@@ -100,6 +105,7 @@ impl Table {
                 out.extend_from_slice(&[r.origin, r.timestamp, r.block, r.verdict]);
             }
         }
+        out.extend_from_slice(&self.marks);
     }
 
     pub fn n(&self) -> usize {
@@ -146,6 +152,7 @@ impl Table {
             Action::Write { node, timestamp, block, verdict } => self.write(node, timestamp, block, verdict),
             Action::Session { a, b, ca, cb, outcome } => self.session(a, b, ca, cb, outcome),
             Action::Purge { node } => self.purge(node),
+            Action::Deliver { node } => self.deliver(node, &mut [0; LIST]),
         }
     }
 
@@ -208,12 +215,42 @@ impl Table {
         // "the node that has it (the lowest among equals)"
         let lags = entries.iter().position(|&entry| entry == smallest).unwrap() as u32;
         let before = self.held[p] as usize;
-        let kept: Vec<Record> = self.log(p).iter().filter(|r| r.timestamp > smallest).copied().collect();
+        let kept: Vec<Record> = self.log(p).iter().filter(|r| r.timestamp > smallest || r.timestamp > self.marks[p]).copied().collect();
         for row in 0..before {
             self.logs[p][row] = kept.get(row).copied().unwrap_or_default();
         }
         self.held[p] = kept.len() as u32;
         Ok(Reply { removed: (before - kept.len()) as u32, lags, ..Reply::default() })
+    }
+
+    /// "The smallest summary entry" of a node, among the nodes that there are.
+    pub fn smallest_entry(&self, p: usize) -> u32 {
+        *self.summaries[p][..self.n()].iter().min().unwrap()
+    }
+
+    /// "By timestamp and then origin, the held records above the mark and not above the smallest summary entry"; those
+    /// of one timestamp and origin, which no run has, stay in the order of the log.
+    pub fn due(&self, p: usize) -> Vec<Record> {
+        let mut due: Vec<Record> = self.log(p).iter().filter(|r| r.timestamp > self.marks[p] && r.timestamp <= self.smallest_entry(p)).copied().collect();
+        due.sort_by_key(|r| (r.timestamp, r.origin));
+        due
+    }
+
+    /// A delivery into a lent list: refused ones leave it and the mark as they were, and the rest of it always stays.
+    pub fn deliver(&mut self, node: u8, list: &mut [u32]) -> Result<Reply, u32> {
+        if !self.sound() {
+            return Err(1);
+        }
+        let p = self.node(node)?;
+        let due = self.due(p);
+        if list.len() < RECORD * due.len() {
+            return Err(7);
+        }
+        for (words, r) in list.chunks_mut(RECORD).zip(&due) {
+            words.copy_from_slice(&[r.origin, r.timestamp, r.block, r.verdict]);
+        }
+        self.marks[p] = self.marks[p].max(self.smallest_entry(p));
+        Ok(Reply { delivered: due.len() as u32, ..Reply::default() })
     }
 
     fn node(&self, node: u8) -> Result<usize, u32> {
@@ -276,6 +313,7 @@ pub fn frame(action: Action) -> Result<Vec<u8>, u32> {
             bytes.push(outcome);
         }
         Action::Purge { node } => bytes.extend([3, node]),
+        Action::Deliver { node } => bytes.extend([5, node]),
     }
     Ok(line_of(&bytes))
 }
@@ -306,7 +344,7 @@ pub fn read(line: &[u8]) -> Result<Frame, Fault> {
     }
     let bytes: Vec<u8> = digits.chunks(2).map(|d| d[0] * 16 + d[1]).collect();
     let due = match bytes[0] {
-        0 | 3 => 6,
+        0 | 3 | 5 => 6,
         1 => 24,
         2 => 26,
         _ => return fault(11, 0),
@@ -319,7 +357,8 @@ pub fn read(line: &[u8]) -> Result<Frame, Fault> {
         0 => Frame::Start(bytes[1]),
         1 => Frame::Step(Action::Write { node: bytes[1], timestamp: number(2), block: number(6), verdict: bytes[10] }),
         2 => Frame::Step(Action::Session { a: bytes[1], b: bytes[2], ca: number(3), cb: number(7), outcome: bytes[11] }),
-        _ => Frame::Step(Action::Purge { node: bytes[1] }),
+        3 => Frame::Step(Action::Purge { node: bytes[1] }),
+        _ => Frame::Step(Action::Deliver { node: bytes[1] }),
     };
     if matches!(frame, Frame::Step(Action::Session { outcome, .. }) if outcome > 3) {
         return fault(20, 22);
@@ -341,6 +380,7 @@ pub fn fields(frame: Frame) -> (u32, Vec<u32>) {
         Frame::Step(Action::Write { node, timestamp, block, verdict }) => (1, vec![w(node), timestamp, block, w(verdict)]),
         Frame::Step(Action::Session { a, b, ca, cb, outcome }) => (2, vec![w(a), w(b), ca, cb, w(outcome)]),
         Frame::Step(Action::Purge { node }) => (3, vec![w(node)]),
+        Frame::Step(Action::Deliver { node }) => (5, vec![w(node)]),
     }
 }
 
@@ -384,6 +424,7 @@ pub fn apply_line(table: Option<&mut Table>, line: &[u8]) -> [u32; 4] {
     let reply = table.apply(action);
     match action {
         Action::Purge { .. } => [reply.refusal, reply.removed, reply.lags, 0],
+        Action::Deliver { .. } => [reply.refusal, reply.delivered, 0, 0],
         _ => [reply.refusal, reply.to_a, reply.to_b, 0],
     }
 }

@@ -1,6 +1,7 @@
 //! How often each refusal number, and each situation that document 01 names, was reached.
 
-use crate::model::Action;
+use crate::layout::RECORD;
+use crate::model::{Action, Record, Table};
 use crate::steps::{Event, MOST};
 use std::collections::BTreeMap;
 
@@ -8,7 +9,7 @@ use std::collections::BTreeMap;
 pub struct Reached(BTreeMap<String, u64>);
 
 /// Everything that a run must have reached at least once.
-const MUST: [&str; 98] = [
+const MUST: [&str; 119] = [
     "fresh 0",
     "fresh 1",
     "write 0",
@@ -40,11 +41,30 @@ const MUST: [&str; 98] = [
     "purge of none",
     "purge of some",
     "purge of a full log to none",
-    "purge of none, held up by another",
-    "purge held up by the last node",
-    "purge held up by two, the lower above 0",
+    "purge of none, another node lags",
+    "purge, the last node lags",
+    "purge, two nodes lag, the lower above 0",
     "write into room that a purge freed",
+    "purge leaves what is delivered and not acknowledged",
+    "purge held back by the mark",
+    "purge held back by the mark, node 0 does not lag",
     "demand 3 looked at",
+    "deliver 0",
+    "deliver 1",
+    "deliver 3",
+    "deliver 7",
+    "deliver of none",
+    "deliver of 16 or more",
+    "deliver, others are above the smallest entry",
+    "deliver in another order than the log's",
+    "deliver of one timestamp from two origins",
+    "deliver of one timestamp and origin twice",
+    "deliver into a list that is just long enough",
+    "deliver into a longer list",
+    "deliver refused with 7, one word short",
+    "deliver, the mark at the smallest entry",
+    "deliver, the mark above the smallest entry",
+    "the order looked at",
     "count 0",
     "count 1",
     "count_node 0",
@@ -68,6 +88,8 @@ const MUST: [&str; 98] = [
     "frame session 17",
     "frame purge 0",
     "frame purge 17",
+    "frame deliver 0",
+    "frame deliver 17",
     "replay done",
     "replay nothing",
     "replay 11",
@@ -149,6 +171,29 @@ impl Reached {
             }
             _ => {}
         }
+    }
+
+    /// A delivery into a list of so many words, with its reply and the table before, where that was sound.
+    pub fn delivery(&mut self, before: Option<&Table>, p: usize, said: [u32; 3], words: usize) {
+        self.numbered(&["deliver 0", "deliver 1", "", "deliver 3", "", "", "", "deliver 7"], said[0]);
+        let Some(table) = before.filter(|t| p < t.n()) else { return };
+        let (due, smallest, mark) = (table.due(p), table.smallest_entry(p), table.marks[p]);
+        self.when(said[0] == 7 && words + 1 == RECORD * due.len(), "deliver refused with 7, one word short");
+        if said[0] != 0 {
+            return;
+        }
+        let in_log_order: Vec<Record> = table.log(p).iter().filter(|r| r.timestamp > mark && r.timestamp <= smallest).copied().collect();
+        let (tie, twin) = (|w: &[Record]| w[0].timestamp == w[1].timestamp, |w: &[Record]| w[0].origin == w[1].origin);
+        self.when(due.is_empty(), "deliver of none");
+        self.when(due.len() >= 16, "deliver of 16 or more");
+        self.when(!due.is_empty() && table.log(p).iter().any(|r| r.timestamp > smallest), "deliver, others are above the smallest entry");
+        self.when(due != in_log_order, "deliver in another order than the log's");
+        self.when(due.windows(2).any(|w| tie(w) && !twin(w)), "deliver of one timestamp from two origins");
+        self.when(due.windows(2).any(|w| tie(w) && twin(w)), "deliver of one timestamp and origin twice");
+        self.when(!due.is_empty() && words == RECORD * due.len(), "deliver into a list that is just long enough");
+        self.when(words > RECORD * due.len(), "deliver into a longer list");
+        self.when(mark == smallest, "deliver, the mark at the smallest entry");
+        self.when(mark > smallest, "deliver, the mark above the smallest entry");
     }
 
     pub fn when(&mut self, it_is: bool, what: &str) {

@@ -1,4 +1,4 @@
-//! Writes journals, and beside each what the independent implementation of document 01 prints for it:
+//! Writes journals, and beside each what the independent implementation of the documents prints for it:
 //!   samples write FOLDER               the sample journals (all but long.journal, which was drawn once and is kept)
 //!   samples random FOLDER COUNT SEED   random journals, half of them damaged, and two that are too long
 //!   samples print FOLDER               FILE.out for each FILE.journal of the folder
@@ -13,7 +13,11 @@ use random::Random;
 use std::path::Path;
 
 const EXAMPLE: &[u8] = b"0002FE\n0100000000050000001010DA\n020001000000060000000403F0\n020001000000070000000701EE\n0300FD\n020001000000080000000803EA\n0300FD\n";
-const PRINTED: &str = "N 2 STEPS 6 REFUSED 0\n0 S 8 8 K 7 6 L 0\n1 S 8 8 K 7 6 L 1\n";
+const PRINTED: &str = "N 2 STEPS 6 REFUSED 0\n0 S 8 8 K 7 6 L 1\n1 S 8 8 K 7 6 L 1\n";
+
+/// "With a line `0500FB` before its last it prints 7 steps and the old node lines."
+const DELIVERED: &[u8] = b"0002FE\n0100000000050000001010DA\n020001000000060000000403F0\n020001000000070000000701EE\n0300FD\n020001000000080000000803EA\n0500FB\n0300FD\n";
+const PRINTED_DELIVERED: &str = "N 2 STEPS 7 REFUSED 0\n0 S 8 8 K 7 6 L 0\n1 S 8 8 K 7 6 L 1\n";
 
 type Journal = Vec<u8>;
 
@@ -29,6 +33,18 @@ fn purge(node: u8) -> Journal {
     model::frame(Action::Purge { node }).unwrap()
 }
 
+fn deliver(node: u8) -> Journal {
+    model::frame(Action::Deliver { node }).unwrap()
+}
+
+/// A delivery and a purge of each node, one after the other.
+fn clear(journal: &mut Journal, nodes: &[u8]) {
+    for &node in nodes {
+        journal.extend(deliver(node));
+        journal.extend(purge(node));
+    }
+}
+
 /// Has neighbours in a list meet, one pair after the other, at a clock that goes on.
 fn ring(journal: &mut Journal, clock: &mut u32, nodes: &[u8], outcome: u8) {
     for pair in nodes.windows(2) {
@@ -38,8 +54,8 @@ fn ring(journal: &mut Journal, clock: &mut u32, nodes: &[u8], outcome: u8) {
 }
 
 /// 16 nodes. Node 0 fills its log and the others learn of it, while node 15 lags behind and nothing
-/// can go. It comes back, node 0 empties its log and writes on; node 2 has no room for that until it
-/// purges too; then all logs drain. On the way stands a step of each refusal number that a journal's
+/// can go. It comes back, node 0 delivers, empties its log and writes on; node 2 has no room for that until it
+/// delivers and purges too; then all logs drain. On the way stands a step of each refusal number that a journal's
 /// step can meet.
 fn cluster() -> Journal {
     let (mut j, mut clock) = (start_frame(16), 100);
@@ -54,9 +70,10 @@ fn cluster() -> Journal {
     j.extend(session(16, 1, 9, 9, 3)); // 3
     j.extend(session(0, 2, 1, 9, 3)); // 5: the reading went back
     j.extend(purge(16)); // 3
+    j.extend(deliver(16)); // 3
     ring(&mut j, &mut clock, &every[..15], 3); // all but 15 learn
     ring(&mut j, &mut clock, &back[1..], 3);
-    every.iter().for_each(|&p| j.extend(purge(p))); // removes nothing: 15 has said nothing
+    clear(&mut j, &every); // nothing is due and nothing goes: 15 has said nothing
     ring(&mut j, &mut clock, &[15, 14, 13], 0); // cut short: 15 still knows nothing
     ring(&mut j, &mut clock, &[14, 15], 1);
     j.extend(purge(14));
@@ -64,25 +81,49 @@ fn cluster() -> Journal {
         ring(&mut j, &mut clock, &every, 3); // 15 is back
         ring(&mut j, &mut clock, &back, 3);
     }
-    j.extend(purge(0)); // removes 64
+    j.extend(purge(0)); // removes nothing: all have acknowledged, but nothing was delivered here
+    clear(&mut j, &[0]); // delivers 64 and removes them
     clock += 1;
     j.extend(write(0, clock, 2000, 0x20)); // room freed by a purge is used again
     j.extend(session(2, 0, clock + 1, clock + 1, 1)); // 6: 2 would hold 65
     j.extend(session(2, 0, clock + 1, clock + 1, 2)); // nothing comes to 0, though 2 is full
-    j.extend(purge(2));
+    clear(&mut j, &[2]);
     clock += 1;
     j.extend(session(2, 0, clock + 1, clock + 1, 1));
     clock += 1;
-    every.iter().for_each(|&p| j.extend(purge(p)));
+    clear(&mut j, &every);
     for _ in 0..3 {
         ring(&mut j, &mut clock, &every, 3);
         ring(&mut j, &mut clock, &back, 3);
     }
-    every.iter().for_each(|&p| j.extend(purge(p))); // all drained
+    clear(&mut j, &every); // all drained
     j.extend(write(0, u32::MAX, 5000, 0xFF));
     j.extend(session(0, 1, u32::MAX, clock + 1, 3));
     j.extend(write(0, u32::MAX, 5000, 0xFF)); // 5: that node writes no more
     j.extend(session(0, 1, u32::MAX, clock + 2, 3));
+    j
+}
+
+/// A full journal of five nodes that write out of step, meet in a ring, deliver and purge: timestamps of several origins between each other,
+/// at times the same, purges that nothing was delivered for, and a node that falls back for a while.
+fn delivering() -> Journal {
+    let (mut rng, mut j) = (Random::new(5_055), start_frame(5));
+    for clock in 1.. {
+        let (p, q) = (rng.below(5) as u8, 1 + rng.below(4) as u8);
+        let away = clock / 200 % 3 == 1 && rng.percent(90);
+        let mut lines = Journal::new();
+        match rng.below(8) {
+            0..=1 => lines.extend(write(p, 3 * clock + rng.below(4), rng.word(), rng.byte())),
+            2..=5 if away && (p == 4 || (p + q) % 5 == 4) => lines.extend(deliver(p)),
+            2..=5 => lines.extend(session(p, (p + q) % 5, 3 * clock, 3 * clock, if rng.percent(5) { rng.below(4) as u8 } else { 3 })),
+            6 => clear(&mut lines, &[p]),
+            _ => lines.extend(purge(p)),
+        }
+        if j.len() + lines.len() > JOURNAL {
+            break;
+        }
+        j.extend(lines);
+    }
     j
 }
 
@@ -95,6 +136,8 @@ fn samples() -> Vec<(&'static str, Journal)> {
     full.extend(b"0300FD");
     vec![
         ("example", EXAMPLE.to_vec()),
+        ("example-delivered", DELIVERED.to_vec()),
+        ("delivers", delivering()),
         ("fills-lags-drains", cluster()),
         ("start-only", start_frame(16)),
         ("refused-11-unknown-kind", and(&model::line_of(&[4, 0]))),
@@ -133,6 +176,7 @@ fn some(rng: &mut Random) -> Journal {
             0 => write(node(rng), clock, rng.word(), rng.byte()),
             1 => session(node(rng), node(rng), near(rng), near(rng), rng.below(4) as u8),
             2 => session(node(rng), node(rng), clock, clock, 3),
+            _ if rng.percent(50) => deliver(node(rng)),
             _ => purge(node(rng)),
         });
     }
@@ -157,7 +201,8 @@ fn damaged(rng: &mut Random, mut j: Journal) -> Journal {
 fn longest(rng: &mut Random) -> Journal {
     let mut j = start_frame(16);
     for clock in 1.. {
-        let line = match rng.below(3) {
+        let line = match rng.below(4) {
+            3 => deliver(rng.below(16) as u8),
             0 => write(rng.below(16) as u8, clock, rng.word(), rng.byte()),
             1 => session(rng.below(16) as u8, rng.below(16) as u8, clock, clock, rng.below(4) as u8),
             _ => purge(rng.below(16) as u8),
@@ -200,6 +245,7 @@ fn print(folder: &Path) -> std::io::Result<()> {
 
 fn main() -> std::io::Result<()> {
     assert_eq!(replay(EXAMPLE).0, PRINTED, "the example of document 01");
+    assert_eq!(replay(DELIVERED).0, PRINTED_DELIVERED, "the example of document 02");
     let words: Vec<String> = std::env::args().skip(1).collect();
     let words: Vec<&str> = words.iter().map(String::as_str).collect();
     let (folder, number) = (Path::new(words.get(1).copied().unwrap_or(".")), |at: usize| words[at].parse::<u64>().expect("a number"));

@@ -1,19 +1,20 @@
 //! Random clusters in many styles, run step by step on the model and on the library, compared word
-//! by word, with the account of demand 3 beside them.
+//! by word, with the account of demand 3 and the delivered lists beside them.
 
 use crate::account::Account;
-use crate::layout::{place, record_at, ACKNOWLEDGEMENTS, COUNTS, HELD, LOGS, NODES, RECORD, ROOM, SUMMARIES, WORDS};
+use crate::layout::{place, record_at, ACKNOWLEDGEMENTS, COUNTS, HELD, LIST, LOGS, MARKS, NODES, RECORD, ROOM, SUMMARIES, WORDS};
 use crate::library::{Calls, Library, BATCH};
-use crate::model::{count, fresh, Action, Table};
+use crate::model::{count, fresh, Action, Record, Table};
 use crate::random::Random;
 use crate::reached::Reached;
 use crate::shrink::shortest;
 
-/// What may happen to a table: the calls of the C interface, and damage.
+/// What may happen to a table: the calls of the C interface, a delivery into a list of so many words among them, and damage.
 #[derive(Clone, Copy, PartialEq, Debug)]
 pub enum Event {
     Fresh(u32),
     Step(Action),
+    Deliver { node: u8, words: u32 },
     Poke(u32, u32),
     CountNode(u8),
     Look { node: u8, origin: u8, index: u32, word: u32 },
@@ -126,7 +127,7 @@ impl Maker {
             }
         }
         if self.style == Style::Drain && self.rng.percent(99) {
-            return Event::Step(self.drain(t));
+            return self.drain(t);
         }
         let (writes, sessions) = match self.style {
             Style::Full => (70, 26),
@@ -143,12 +144,32 @@ impl Maker {
             99 if self.rng.percent(3) => Event::Fresh(self.rng.word()),
             k if k < writes => Event::Step(self.write(t, n)),
             k if k < writes + sessions => Event::Step(self.session(t, n)),
+            k if k % 2 == 0 => self.delivery(t, n),
             _ => Event::Step(Action::Purge { node: self.node(n) }),
         }
     }
 
-    /// Fills node 0's log, lets all pairs meet until all is acknowledged, and purges every node.
-    fn drain(&mut self, t: &Table) -> Action {
+    /// A delivery into a list that is long enough, or now and then just, or not at all.
+    fn delivery(&mut self, t: &Table, n: u32) -> Event {
+        let node = self.node(n);
+        let due = if t.sound() && u32::from(node) < t.count { (RECORD * t.due(node.into()).len()) as u32 } else { 0 };
+        let any = self.rng.below(300);
+        let words = self.rng.among(&[LIST as u32, LIST as u32, LIST as u32, due, due + 1, due.saturating_sub(1), due.saturating_sub(4), any, due + 7, 0]);
+        Event::Deliver { node, words }
+    }
+
+    /// Fills node 0's log, lets all pairs meet until all is acknowledged, and has every node deliver and purge.
+    fn drain(&mut self, t: &Table) -> Event {
+        let n = t.count.clamp(*COUNTS.start(), *COUNTS.end());
+        let last = MOST + 1 + 4 * (n - 1);
+        if (last..last + n).contains(&self.turn) {
+            self.turn += 1;
+            return Event::Deliver { node: (self.turn - 1 - last) as u8, words: LIST as u32 };
+        }
+        Event::Step(self.drain_step(t))
+    }
+
+    fn drain_step(&mut self, t: &Table) -> Action {
         let (n, turn) = (t.count.clamp(*COUNTS.start(), *COUNTS.end()), self.turn);
         self.turn += 1;
         if turn < MOST + 1 {
@@ -163,10 +184,11 @@ impl Maker {
             let late = self.clocks.iter().copied().max().unwrap_or(0);
             return Action::Session { a, b: a + 1, ca: ca.max(late), cb: cb.max(late), outcome: 3 };
         }
-        if meeting + 1 == 4 * (n - 1) + n {
+        let purges = 4 * (n - 1) + n; // after the deliveries
+        if meeting + 1 == purges + n {
             self.turn = self.rng.below(MOST);
         }
-        Action::Purge { node: (meeting - 4 * (n - 1)) as u8 }
+        Action::Purge { node: (meeting - purges) as u8 }
     }
 
     /// A node below n, or now and then another.
@@ -236,8 +258,9 @@ impl Maker {
     fn damage(&mut self, t: &Table) -> Event {
         let p = self.rng.below(NODES as u32) as usize;
         let entry = (NODES * NODES) as u32;
-        let index = match self.rng.below(7) {
+        let index = match self.rng.below(8) {
             0 => 0,
+            7 => MARKS + p,
             1 | 2 => HELD + p,
             3 => SUMMARIES + self.rng.below(entry) as usize,
             4 => ACKNOWLEDGEMENTS + self.rng.below(entry) as usize,
@@ -252,8 +275,8 @@ impl Maker {
         let least_wrong = match index {
             0 => self.rng.among(&[0, 1, NODES as u32 + 1]),
             HELD..LOGS => MOST + 1,
-            LOGS.. if (index - LOGS) % RECORD == 0 => t.count,
-            LOGS.. => 256,
+            LOGS..MARKS if (index - LOGS) % RECORD == 0 => t.count,
+            LOGS..MARKS => 256,
             _ => u32::MAX,
         };
         Event::Poke(index as u32, self.rng.among(&[least_wrong, least_wrong, least_wrong, 0, 1, 2, 16, 64, 255, low, high, u32::MAX, old.wrapping_add(1), old.wrapping_sub(1)]))
@@ -277,8 +300,10 @@ fn apply(table: &mut Table, event: Event) -> Option<[u32; 3]> {
                 Action::Write { .. } => [r.refusal, NONE, NONE],
                 Action::Session { .. } => [r.refusal, r.to_a, r.to_b],
                 Action::Purge { .. } => [r.refusal, r.removed, r.lags],
+                Action::Deliver { .. } => [r.refusal, r.delivered, NONE],
             })
         }
+        Event::Deliver { node, words } => Some(delivered(table, node, &mut lent(words))),
         Event::Poke(index, value) => {
             let mut words = Vec::new();
             table.to_words(&mut words);
@@ -287,6 +312,18 @@ fn apply(table: &mut Table, event: Event) -> Option<[u32; 3]> {
             None
         }
         _ => None,
+    }
+}
+
+/// The words of a list as it is lent, each another, and what a delivery into it says.
+pub fn lent(words: u32) -> Vec<u32> {
+    (0..words).map(|i| 0xA5A5_A5A5 ^ i).collect()
+}
+
+fn delivered(table: &mut Table, node: u8, list: &mut [u32]) -> [u32; 3] {
+    match table.deliver(node, list) {
+        Ok(reply) => [0, reply.delivered, u32::MAX],
+        Err(refusal) => [refusal, 0, u32::MAX],
     }
 }
 
@@ -301,8 +338,8 @@ fn counted(table: Option<&Table>, node: u8) -> [u32; 3] {
     [0, scrubbed, touched]
 }
 
-fn looked(table: Option<&Table>, node: u8, origin: u8, index: u32, word: u32) -> [u32; 4] {
-    let Some(t) = table.filter(|t| t.sound() && u32::from(node) < t.count) else { return [0; 4] };
+fn looked(table: Option<&Table>, node: u8, origin: u8, index: u32, word: u32) -> [u32; 5] {
+    let Some(t) = table.filter(|t| t.sound() && u32::from(node) < t.count) else { return [0; 5] };
     let (p, o) = (usize::from(node), usize::from(origin));
     let entry = |row: &[u32]| if o < t.n() { row[o] } else { 0 };
     let record = t.log(p).get(index as usize).map_or(0, |r| match word {
@@ -312,7 +349,7 @@ fn looked(table: Option<&Table>, node: u8, origin: u8, index: u32, word: u32) ->
         3 => r.verdict,
         _ => 0,
     });
-    [entry(&t.summaries[p]), entry(&t.acknowledgements[p]), t.held[p], record]
+    [entry(&t.summaries[p]), entry(&t.acknowledgements[p]), t.held[p], t.marks[p], record]
 }
 
 /// One run of a scenario on both sides.
@@ -329,6 +366,7 @@ impl Run<'_> {
     /// Compares the answers to one event; a text says what differs.
     fn event(&mut self, event: Event, answers: &mut crate::library::Answers) -> Result<(), String> {
         let before_held = self.situation(event);
+        self.held_back(event);
         match event {
             Event::Fresh(_) | Event::Step(_) => {
                 let said = match &mut self.table {
@@ -347,6 +385,7 @@ impl Run<'_> {
                     self.demand_3(event)?;
                 }
             }
+            Event::Deliver { node, words: many } => self.delivery(node, many, answers)?,
             Event::Poke(index, value) => {
                 if let Some(table) = &mut self.table {
                     let _ = apply(table, event);
@@ -361,7 +400,7 @@ impl Run<'_> {
             }
             Event::Look { node, origin, index, word } => {
                 let said = looked(self.table.as_ref(), node, origin, index, word);
-                same("summary, acknowledgement, held, record", answers.words(4), &said)?;
+                same("summary, acknowledgement, held, mark, record", answers.words(5), &said)?;
                 words(answers.words(self.expected.len()), &self.expected)?;
             }
         }
@@ -373,9 +412,35 @@ impl Run<'_> {
         let (Some(table), Event::Step(Action::Purge { node })) = (&self.table, event) else { return };
         let entries = &table.acknowledgements[usize::from(node)][..table.n()];
         let lags = said[2] as usize;
-        self.reached.when(lags + 1 == entries.len(), "purge held up by the last node");
-        self.reached.when(lags > 0 && entries[lags + 1..].contains(&entries[lags]), "purge held up by two, the lower above 0");
-        self.reached.when(said[1] == 0 && lags != usize::from(node), "purge of none, held up by another");
+        self.reached.when(lags + 1 == entries.len(), "purge, the last node lags");
+        self.reached.when(lags > 0 && entries[lags + 1..].contains(&entries[lags]), "purge, two nodes lag, the lower above 0");
+        self.reached.when(said[1] == 0 && lags != usize::from(node), "purge of none, another node lags");
+    }
+
+    /// Compares a delivery: the reply, every word of the list and of the table; then the order, with what was delivered.
+    fn delivery(&mut self, node: u8, many: u32, answers: &mut crate::library::Answers) -> Result<(), String> {
+        let (p, mut list) = (usize::from(node), lent(many));
+        let before = self.table.clone();
+        let said = self.table.as_mut().map_or([1, 0, u32::MAX], |table| delivered(table, node, &mut list));
+        same("the reply", &[answers.word(), answers.word(), answers.word()], &said)?;
+        let is = answers.words(list.len());
+        if let Some(at) = (0..list.len()).find(|&i| is[i] != list[i]) {
+            return Err(format!("word {at} of the list: the library has {}, document 02 {}", is[at], list[at]));
+        }
+        if let Some(table) = self.table.as_ref().filter(|_| said[0] == 0) {
+            table.to_words(&mut self.expected);
+        }
+        words(answers.words(self.expected.len()), &self.expected)?;
+        self.reached.delivery(before.as_ref().filter(|t| t.sound()), p, said, many as usize);
+        if let (0, Some(account), Some(table)) = (said[0], &mut self.account, &self.table) {
+            let records: Vec<Record> = list.chunks(RECORD).take(said[1] as usize).map(|w| Record { origin: w[0], timestamp: w[1], block: w[2], verdict: w[3] }).collect();
+            account.delivered(p, &records);
+            self.reached.add("the order looked at");
+            if let Some(fault) = account.out_of_order(table, p) {
+                return Err(format!("the same order everywhere: {fault}"));
+            }
+        }
+        Ok(())
     }
 
     /// "Room freed by a purge is used again": notes when it is.
@@ -388,11 +453,25 @@ impl Run<'_> {
         }
     }
 
+    /// What keeps the records of a node that is purged: its mark alone, or its acknowledgements alone.
+    fn held_back(&mut self, event: Event) {
+        let (Event::Step(Action::Purge { node }), Some(t)) = (event, &self.table) else { return };
+        let p = usize::from(node);
+        if !t.sound() || p >= t.n() {
+            return;
+        }
+        let (smallest, mark) = (*t.acknowledgements[p][..t.n()].iter().min().unwrap(), t.marks[p]);
+        let any = |low: u32, high: u32| t.log(p).iter().any(|r| low < r.timestamp && r.timestamp <= high);
+        self.reached.when(any(mark, smallest), "purge held back by the mark");
+        self.reached.when(any(mark, smallest) && t.acknowledgements[p][0] > smallest, "purge held back by the mark, node 0 does not lag");
+        self.reached.when(any(smallest, mark), "purge leaves what is delivered and not acknowledged");
+    }
+
     /// What the nodes of a step held before it, for the situations that must be reached.
     fn situation(&self, event: Event) -> [u32; 2] {
         let held = |p: u8| self.table.as_ref().map_or(0, |t| t.held[usize::from(p) % NODES]);
         match event {
-            Event::Step(Action::Write { node, .. } | Action::Purge { node }) => [held(node), 0],
+            Event::Step(Action::Write { node, .. } | Action::Purge { node } | Action::Deliver { node }) => [held(node), 0],
             Event::Step(Action::Session { a, b, .. }) => [held(a), held(b)],
             _ => [0, 0],
         }
@@ -408,7 +487,7 @@ impl Run<'_> {
         account.accepted(action);
         self.reached.add("demand 3 looked at");
         let nodes = match action {
-            Action::Write { node, .. } | Action::Purge { node } => [node, node],
+            Action::Write { node, .. } | Action::Purge { node } | Action::Deliver { node } => [node, node],
             Action::Session { a, b, .. } => [a, b],
         };
         for p in nodes {
@@ -421,13 +500,15 @@ impl Run<'_> {
 
     fn demand_3_everywhere(&self) -> Result<(), String> {
         let (Some(account), Some(table)) = (&self.account, &self.table) else { return Ok(()) };
-        (0..table.n()).find_map(|p| account.fault(table, p)).map_or(Ok(()), |fault| Err(format!("demand 3: {fault}")))
+        (0..table.n()).find_map(|p| account.fault(table, p)).map_or(Ok(()), |fault| Err(format!("demand 3: {fault}")))?;
+        (0..table.n()).find_map(|p| account.out_of_order(table, p)).map_or(Ok(()), |fault| Err(format!("the same order everywhere: {fault}")))
     }
 }
 
 fn refused_with_1(event: Event) -> [u32; 3] {
     match event {
         Event::Step(Action::Session { .. } | Action::Purge { .. }) => [1, 0, 0],
+        Event::Step(Action::Deliver { .. }) => [1, 0, u32::MAX],
         _ => [1, u32::MAX, u32::MAX],
     }
 }
@@ -458,6 +539,7 @@ pub fn compare(library: &mut Library, scenario: &Scenario, reached: &mut Reached
             match *event {
                 Event::Fresh(n) => calls.fresh(n),
                 Event::Step(action) => calls.step(action),
+                Event::Deliver { node, words } => calls.deliver(node, &lent(words)),
                 Event::Poke(index, value) => calls.poke(index, value),
                 Event::CountNode(node) => calls.count_node(node),
                 Event::Look { node, origin, index, word } => calls.look(node, origin, index, word),
@@ -478,7 +560,7 @@ pub fn compare(library: &mut Library, scenario: &Scenario, reached: &mut Reached
 pub fn seed(library: &mut Library, seed: u64, reached: &mut Reached) -> Result<usize, String> {
     let scenario = make(seed);
     let Err((at, _)) = compare(library, &scenario, reached) else {
-        return Ok(scenario.events.iter().filter(|event| matches!(event, Event::Step(_))).count());
+        return Ok(scenario.events.iter().filter(|event| matches!(event, Event::Step(_) | Event::Deliver { .. })).count());
     };
     let mut nowhere = Reached::default();
     let mut fails = |events: &[Event]| {
@@ -522,6 +604,8 @@ fn written(event: Event) -> String {
         Event::Step(Action::Write { node, timestamp, block, verdict }) => format!("write node {node} timestamp {timestamp} block {block} verdict {verdict}"),
         Event::Step(Action::Session { a, b, ca, cb, outcome }) => format!("session {a} with {b} readings {ca} and {cb} outcome {outcome}"),
         Event::Step(Action::Purge { node }) => format!("purge node {node}"),
+        Event::Step(Action::Deliver { node }) => format!("delivery of node {node}"),
+        Event::Deliver { node, words } => format!("delivery of node {node} into {words} words"),
         Event::Poke(index, value) => format!("word {index} ({}) set to {value}", place(index as usize)),
         Event::CountNode(node) => format!("count of node {node}"),
         Event::Look { node, origin, index, word } => format!("look at node {node}, entry {origin}, record {index}, word {word}"),
@@ -535,8 +619,19 @@ pub fn steps_of(seed: u64) -> (u32, Vec<Action>) {
         Event::Fresh(n) => n,
         _ => scenario.words.first().copied().unwrap_or(2).clamp(*COUNTS.start(), *COUNTS.end()),
     };
-    let steps = scenario.events.iter().filter_map(|e| if let Event::Step(action) = e { Some(*action) } else { None }).collect();
+    let steps = scenario.events.iter().filter_map(|event| event.step()).collect();
     (n, steps)
+}
+
+impl Event {
+    /// The step that a line can give, if the event is one: a line has no say in the list of a delivery.
+    pub fn step(self) -> Option<Action> {
+        match self {
+            Event::Step(action) => Some(action),
+            Event::Deliver { node, .. } => Some(Action::Deliver { node }),
+            _ => None,
+        }
+    }
 }
 
 /// The most records that a log holds, for the situations.

@@ -26,6 +26,7 @@ fn line(action: Action) -> Vec<u8> {
         Action::Write { node, timestamp, block, verdict } => line_of(&[&[1, node][..], &timestamp.to_be_bytes(), &block.to_be_bytes(), &[verdict]].concat()),
         Action::Session { a, b, ca, cb, outcome } => line_of(&[&[2, a, b][..], &ca.to_be_bytes(), &cb.to_be_bytes(), &[outcome]].concat()),
         Action::Purge { node } => line_of(&[3, node]),
+        Action::Deliver { node } => line_of(&[5, node]),
     }
 }
 
@@ -47,16 +48,16 @@ fn make(seed: u64) -> (Vec<u32>, Vec<Event>) {
     let scenario = steps::make(rng.next() >> 8);
     let (mut events, mut text) = (Vec::new(), Vec::new());
     for event in &scenario.events {
-        match *event {
-            steps::Event::Fresh(n) => {
+        match (*event, event.step()) {
+            (steps::Event::Fresh(n), _) => {
                 flush(&mut rng, &mut text, &mut events);
                 events.push(Event::Fresh(n));
             }
-            steps::Event::Poke(index, value) => {
+            (steps::Event::Poke(index, value), _) => {
                 flush(&mut rng, &mut text, &mut events);
                 events.push(Event::Poke(index, value));
             }
-            steps::Event::Step(action) if text.is_empty() && rng.percent(50) => {
+            (_, Some(action)) if text.is_empty() && rng.percent(50) => {
                 let mut single = match rng.below(20) {
                     0 => start_frame(2 + rng.below(15) as u8),
                     _ => line(action),
@@ -64,7 +65,7 @@ fn make(seed: u64) -> (Vec<u32>, Vec<Event>) {
                 single.pop();
                 events.push(Event::Line(if rng.percent(15) { lines::line(&mut rng) } else { single }));
             }
-            steps::Event::Step(action) => {
+            (_, Some(action)) => {
                 text.push(line(action));
                 if rng.percent(20) {
                     flush(&mut rng, &mut text, &mut events);

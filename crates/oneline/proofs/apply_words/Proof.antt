@@ -1,5 +1,5 @@
 -- `apply_words` goes by the kind.
-use Rattle.oneline.proofs.WordLaws.{applied-as, first-byte, verdict-byte, session-bytes, in-write, in-session, in-purge}
+use Rattle.oneline.proofs.WordLaws.{applied-as, first-byte, verdict-byte, session-bytes, in-write, in-session, in-deliver, in-purge}
 use borrow.Author.Needs.{needs}
 use Rattle.oneline.proofs.apply_words.Statement.{statement}
 use Rattle.oneline.proofs.apply_words.Tie as tie
@@ -37,6 +37,9 @@ cast-session-2 c =
 session-requires : tie.Need-session-requires
 session-requires c κs = search needs
 
+deliver-alone-requires : tie.Need-deliver-alone-requires
+deliver-alone-requires c κs = search needs
+
 purge-requires : tie.Need-purge-requires
 purge-requires c κs = search needs
 
@@ -67,12 +70,23 @@ same-length-3 c = search needs
 
 returns-3 : tie.Need-returns-3
 returns-3 c =
+    let at-deliver = c .before .before in
+    let at-match = at-deliver .before .before in
+    let start = at-match .before .before in
+    let a = start .args in
+    applied-as (a .t .now) (in-deliver (a .kind) (a .a) (a .b) (a .c) (a .d) (a .e) (at-match .match .keys3)) (at-deliver .deliver-alone .ensures)
+
+same-length-4 : tie.Need-same-length-4
+same-length-4 c = search needs
+
+returns-4 : tie.Need-returns-4
+returns-4 c =
     let at-purge = c .before .before in
     let at-match = at-purge .before .before in
     let start = at-match .before .before in
     let a = start .args in
     let other = at-match .match .rest in
-    applied-as (a .t .now) (in-purge (a .kind) (a .a) (a .b) (a .c) (a .d) (a .e) (other .0 .1) (other .1)) (at-purge .purge .ensures)
+    applied-as (a .t .now) (in-purge (a .kind) (a .a) (a .b) (a .c) (a .d) (a .e) (other .0 .0 .1) (other .0 .1) (other .1)) (at-purge .purge .ensures)
 
 pub apply-words-spec : {M : Type 1} → statement M
 apply-words-spec =
@@ -84,10 +98,13 @@ apply-words-spec =
     cast-session
     cast-session-2
     session-requires
+    deliver-alone-requires
     purge-requires
     same-length
     returns
     same-length-2
     returns-2
     same-length-3
-    returns-3)
+    returns-3
+    same-length-4
+    returns-4)

@@ -1,99 +1,26 @@
--- `purges::limit_of` meets its contract: the part that is lent is the node's row, and its first word stands where it stood.
-use mathlib.Core.Path.{_≡_, ap, ap₂, sym, _∙_}
-use Prim.Native.Nat.{ℕ, _+_, _-_, _<_}
-use native.Mathlib.Omega.{arith}
-use mathlib.Core.List.{List}
-use lib.ListN.{take, drop, getD, set}
-use lib.Seq.{set-getD}
-use Rattle.meaning.specs.Rows.{least, leastAt}
-use Rattle.meaning.specs.Steps.{limit, lagging}
-use Rattle.meaning.specs.Table.{count, node, part, acksAt, Sound}
-use Rattle.meaning.proofs.PlaceLaws.{part-lent, inside-lent, getD-part}
-use Rattle.meaning.proofs.RowLaws.{leastAt-below}
-use Rattle.meaning.proofs.TableLaws.{node-shaped}
+-- `purges::limit_of` meets its contract: the smaller of the row's smallest entry and the mark, and the node of the entry.
+use mathlib.Core.Path.{ap₂, _∙_}
+use Prim.Native.Nat.{min}
+use Rattle.meaning.specs.Steps.{limit}
 use borrow.Author.Needs.{needs}
 use Rattle.purges.proofs.limit_of.Statement.{statement}
 use Rattle.purges.proofs.limit_of.Tie as tie
 
-lent : (t : List ℕ) (p at n : ℕ) → at ≡ acksAt p → n ≡ count t → take ((at + n) - at) (drop at t) ≡ node t p .acks
-unfolding node
-lent t p at n e f = part-lent at n t ∙ ap₂ (λ (a m : ℕ). part a m t) e f
+low-of-requires : tie.Need-low-of-requires
+low-of-requires c κs = search needs
 
--- a row in which the first word is put where it stood
-own : (t : List ℕ) (at n : ℕ) → 0 < n → set (take ((at + n) - at) (drop at t)) 0 (getD t at 0) ≡ take ((at + n) - at) (drop at t)
-own t at n h =
-    let e : getD (take ((at + n) - at) (drop at t)) 0 0 ≡ getD t at 0 =
-    ap (λ (l : List ℕ). getD l 0 0) (part-lent at n t) ∙ getD-part at n t 0 at (omega arith) h
-    in
-    ap (set (take ((at + n) - at) (drop at t)) 0) (sym e) ∙ set-getD (take ((at + n) - at) (drop at t)) 0 0
+mark-of-requires : tie.Need-mark-of-requires
+mark-of-requires c κs = search needs
 
-acks-at-requires : tie.Need-acks-at-requires
-acks-at-requires c κs = search needs
-
-add-end : tie.Need-add-end
-add-end c = search needs
-
-mul-least-with : tie.Need-mul-least-with
-mul-least-with c = search needs
-
-sub-least-with : tie.Need-sub-least-with
-sub-least-with c = search needs
-
-part-least-with-start : tie.Need-part-least-with-start
-part-least-with-start c = search needs
-
-part-least-with-end : tie.Need-part-least-with-end
-part-least-with-end c = search needs
-
-mul-least-with-2 : tie.Need-mul-least-with-2
-mul-least-with-2 c = search needs
-
-shared-slice-read-least-with : tie.Need-shared-slice-read-least-with
-shared-slice-read-least-with c = search needs
-
-least-with-requires : tie.Need-least-with-requires
-least-with-requires c κs =
-    let at-acks-at = c .before .before in
-    let start = at-acks-at .before .before in
-    let s : Sound (start .args .t .now) = start .pre .0 in
-    let l = s .long in
-    let a = s .low in
-    let b = s .high in
-    let f = start .pre .2 in
-    let h = start .pre .1 in
-    let e = at-acks-at .acks-at .ensures in
-    inside-lent (at-acks-at .acks-at .result) _ (start .args .t .now) 0 (omega arith) (omega arith)
+min-of-requires : tie.Need-min-of-requires
+min-of-requires c κs = search needs
 
 returns : tie.Need-returns
-unfolding limit lagging
+unfolding limit
 returns c =
-    let at-acks-at = c .before .before .before in
-    let start = at-acks-at .before .before in
-    let t = start .args .t .now in
-    let s : Sound t = start .pre .0 in
-    let a = s .low in
-    let f = start .pre .2 in
-    let row =
-    own t (at-acks-at .acks-at .result) (start .args .n) (omega arith) ∙
-    lent t (start .args .p) (at-acks-at .acks-at .result) (start .args .n) (at-acks-at .acks-at .ensures) (start .pre .2)
-    in
-    let found = c .least-with .ensures in
-    let at = found .1 ∙ ap leastAt row in
-    let wide = node-shaped t s (start .args .p) (start .pre .1) .acksLong in
-    let below = leastAt-below (node t (start .args .p) .acks) (omega arith) in
-    (found .0 ∙ ap least row, at, omega arith)
+    let at-mark-of = c .before in
+    let low = at-mark-of .before .low-of .ensures in
+    (c .min-of .ensures ∙ ap₂ min (low .0) (at-mark-of .mark-of .ensures), low .1, low .2)
 
 pub limit-of-spec : {M : Type 1} → statement M
-limit-of-spec =
-    tie.close
-    (tie.spec
-    acks-at-requires
-    add-end
-    mul-least-with
-    sub-least-with
-    part-least-with-start
-    part-least-with-end
-    mul-least-with-2
-    shared-slice-read-least-with
-    least-with-requires
-    returns)
+limit-of-spec = tie.close (tie.spec low-of-requires mark-of-requires min-of-requires returns)

@@ -24,7 +24,7 @@ module _ {t : List ℕ} {f : Bool} {p q : ℕ} {sp kp sq kq : List ℕ} {had sho
         long = s .longP .0;
         mine = s .mine;
         theirs = s .theirs;
-        room = crowd t p sp kp sq kq (heldLog t q shown) had (s .mine) f ∙ s .room;
+        room = crowd t p sp kp sq kq (heldLog t q shown) (node t q .mark) had (s .mine) f ∙ s .room;
       }
 
   merges : (u : List ℕ) → length u ≡ length t → Merges u p sp kp sq kq
@@ -43,9 +43,9 @@ module _ {t : List ℕ} {f : Bool} {p q : ℕ} {sp kp sq kq : List ℕ} {had sho
   done : {r : ℕ} {u : List ℕ} → Took t f p q sp had shown r u → (v : List ℕ) → v ≡ rowsPut f p sp kp sq kq u → Sided t f p q sp kp sq kq had shown r v
   done {u} took v ev =
       record {
-        total = took .total ∙ ap (λ (i : ℕ). had + i) (came-carried f sp kp sq kq (node t p .log) (heldLog t q shown));
+        total = took .total ∙ ap (λ (i : ℕ). had + i) (came-carried f sp kp sq kq (node t p .log) (heldLog t q shown) (node t p .mark) (node t q .mark));
         most = took .most;
-        leaves = side-put t (s .isSound) p (s .here) f sp kp sq kq (heldLog t q shown) u v (s .room) (took .leaves) ev;
+        leaves = side-put t (s .isSound) p (s .here) f sp kp sq kq (heldLog t q shown) (node t q .mark) u v (s .room) (took .leaves) ev;
       }
 
 take-requires : tie.Need-take-requires

@@ -21,6 +21,12 @@ enum-known-action-3 c = search needs
 purge-requires : tie.Need-purge-requires
 purge-requires c κs = search needs
 
+enum-known-action-4 : tie.Need-enum-known-action-4
+enum-known-action-4 c = search needs
+
+deliver-alone-requires : tie.Need-deliver-alone-requires
+deliver-alone-requires c κs = search needs
+
 same-length : tie.Need-same-length
 same-length c = search needs
 
@@ -48,6 +54,15 @@ returns-3 c =
     let at-action3 = at-purge .before .before .before in
     rw (at-action3 .action3 .given .1) (at-purge .purge .ensures)
 
+same-length-4 : tie.Need-same-length-4
+same-length-4 c = search needs
+
+returns-4 : tie.Need-returns-4
+returns-4 c =
+    let at-deliver-alone = c .before .before in
+    let at-action4 = at-deliver-alone .before .before .before in
+    rw (at-action4 .action4 .given .1) (at-deliver-alone .deliver-alone .ensures)
+
 pub apply-sound-spec : {M : Type 1} → statement M
 apply-sound-spec =
     tie.close
@@ -58,9 +73,13 @@ apply-sound-spec =
     session-requires
     enum-known-action-3
     purge-requires
+    enum-known-action-4
+    deliver-alone-requires
     same-length
     returns
     same-length-2
     returns-2
     same-length-3
-    returns-3)
+    returns-3
+    same-length-4
+    returns-4)

@@ -1,7 +1,7 @@
 -- `due_at` meets its contract, by the kind's two characters.
 use Prim.Native.Nat.{_+_}
 use lib.ListN.{getD}
-use Rattle.turns.proofs.TurnLaws.{due-write, due-session, due-purge, due-other, due-none, due-short, due-nothing, due-is}
+use Rattle.turns.proofs.TurnLaws.{due-write, due-session, due-purge, due-delivery, due-other, due-none, due-short, due-nothing, due-is}
 use borrow.Author.Needs.{needs}
 use Rattle.turns.proofs.due_at.Statement.{statement}
 use Rattle.turns.proofs.due_at.Tie as tie
@@ -39,6 +39,9 @@ ends-at-requires-2 c κs = search needs
 ends-at-requires-3 : tie.Need-ends-at-requires-3
 ends-at-requires-3 c κs = search needs
 
+ends-at-requires-4 : tie.Need-ends-at-requires-4
+ends-at-requires-4 c κs = search needs
+
 returns-3 : tie.Need-returns-3
 returns-3 c =
     let at-match = c .before in
@@ -68,12 +71,22 @@ returns-5 c =
 
 returns-6 : tie.Need-returns-6
 returns-6 c =
+    let at-match = c .before in
+    let at-if2 = at-match .before .before in
+    let start = at-if2 .before .before .before .before in
+    let s = start .args .s .now in
+    let at = start .args .at in
+    due-is s at (c .ends-at4 .result) _ (due-delivery (getD s at 0) (getD s (at + 1) 0) (at-if2 .if2 .left) (at-match .match .keys4)) (c .ends-at4 .ensures)
+
+returns-7 : tie.Need-returns-7
+returns-7 c =
     let at-if2 = c .before .before in
     let start = at-if2 .before .before .before .before in
     let s = start .args .s .now in
     let at = start .args .at in
     let other = c .match .rest in
-    due-nothing s at (due-other (getD s at 0) (getD s (at + 1) 0) (at-if2 .if2 .left) (other .0 .0 .1) (other .0 .1) (other .1))
+    due-nothing s at (due-other (getD s at 0) (getD s (at + 1) 0) (at-if2 .if2 .left) (other .0 .0 .0 .1) (other .0 .0 .1) (other .0 .1)
+    (other .1))
 
 pub due-at-spec : {M : Type 1} → statement M
 due-at-spec =
@@ -88,7 +101,9 @@ due-at-spec =
     ends-at-requires
     ends-at-requires-2
     ends-at-requires-3
+    ends-at-requires-4
     returns-3
     returns-4
     returns-5
-    returns-6)
+    returns-6
+    returns-7)

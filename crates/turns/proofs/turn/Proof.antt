@@ -1,6 +1,6 @@
 -- `turn` meets its contract, by the digits that are due.
 use native.Mathlib.Omega.{arith}
-use Rattle.turns.proofs.TurnLaws.{ended-write, ended-session, ended-purge, part-begins, part-turned, turned-other}
+use Rattle.turns.proofs.TurnLaws.{ended-write, ended-session, ended-short, part-begins, part-short, part-turned, turned-other}
 use borrow.Author.Needs.{needs}
 use Rattle.turns.proofs.turn.Statement.{statement}
 use Rattle.turns.proofs.turn.Tie as tie
@@ -53,29 +53,28 @@ session-line-requires c κs =
     let is = at-match .match .keys2 in
     (start .pre .0, part-begins (a .s .now) (a .at) (a .due) (start .pre .2) 26 50 is (ended-session (a .s .now) (a .at) (a .due) (start .pre .2) is))
 
-add-purge-line : tie.Need-add-purge-line
-add-purge-line c = search needs
+add-short-step : tie.Need-add-short-step
+add-short-step c = search needs
 
-sub-purge-line : tie.Need-sub-purge-line
-sub-purge-line c = search needs
+sub-short-step : tie.Need-sub-short-step
+sub-short-step c = search needs
 
-part-purge-line-start : tie.Need-part-purge-line-start
-part-purge-line-start c = search needs
+part-short-step-start : tie.Need-part-short-step-start
+part-short-step-start c = search needs
 
-part-purge-line-end : tie.Need-part-purge-line-end
-part-purge-line-end c =
+part-short-step-end : tie.Need-part-short-step-end
+part-short-step-end c =
     let start = c .before .before .before in
     let a = start .args in
-    let x = ended-purge (a .s .now) (a .at) (a .due) (start .pre .2) (c .match .keys3) in
-    omega (arith, x .room)
+    let x = ended-short (a .s .now) (a .at) (a .due) (start .pre .2) (c .match .keys3) in
+    omega (arith, x .0)
 
-purge-line-requires : tie.Need-purge-line-requires
-purge-line-requires c κs =
+short-step-requires : tie.Need-short-step-requires
+short-step-requires c κs =
     let at-match = c .before .before in
     let start = at-match .before .before .before in
     let a = start .args in
-    let is = at-match .match .keys3 in
-    (start .pre .0, part-begins (a .s .now) (a .at) (a .due) (start .pre .2) 6 51 is (ended-purge (a .s .now) (a .at) (a .due) (start .pre .2) is))
+    (start .pre .0, part-short (a .s .now) (a .at) (a .due) (start .pre .2) (at-match .match .keys3))
 
 same-length : tie.Need-same-length
 same-length c = search needs
@@ -104,11 +103,11 @@ same-length-3 c = search needs
 
 returns-3 : tie.Need-returns-3
 returns-3 c =
-    let at-purge = c .before .before in
-    let at-match = at-purge .before .before .before in
+    let at-short = c .before .before in
+    let at-match = at-short .before .before .before in
     let start = at-match .before .before .before in
     let a = start .args in
-    part-turned (a .s .now) (a .at) (a .due) (start .pre .2) 6 (at-match .match .keys3) (at-purge .purge-line .ensures)
+    part-turned (a .s .now) (a .at) (a .due) (start .pre .2) 6 (at-match .match .keys3) (at-short .short-step .ensures)
 
 returns-4 : tie.Need-returns-4
 returns-4 c =
@@ -131,11 +130,11 @@ turn-spec =
     part-session-line-start
     part-session-line-end
     session-line-requires
-    add-purge-line
-    sub-purge-line
-    part-purge-line-start
-    part-purge-line-end
-    purge-line-requires
+    add-short-step
+    sub-short-step
+    part-short-step-start
+    part-short-step-end
+    short-step-requires
     same-length
     returns
     same-length-2

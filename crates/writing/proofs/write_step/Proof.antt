@@ -1,5 +1,5 @@
 -- `write_step` meets its contract: each case has its writer.
-use Rattle.meaning.specs.declared.Action.the-variants.{Write, Session, Purge}
+use Rattle.meaning.specs.declared.Action.the-variants.{Write, Session, Purge, Deliver}
 use Rattle.writing.proofs.WriteLaws.{by-case}
 use borrow.Author.Needs.{needs}
 use Rattle.writing.proofs.write_step.Statement.{statement}
@@ -22,6 +22,12 @@ enum-known-action-3 c = search needs
 
 purge-requires : tie.Need-purge-requires
 purge-requires c κs = search needs
+
+enum-known-action-4 : tie.Need-enum-known-action-4
+enum-known-action-4 c = search needs
+
+deliver-requires : tie.Need-deliver-requires
+deliver-requires c κs = search needs
 
 same-length : tie.Need-same-length
 same-length c = search needs
@@ -59,6 +65,18 @@ returns-3 c =
     by-case (start .args .out .now) (at-purge .purge .last .0) (at-purge .purge .result) (start .args .step .action) (Purge (x .0))
     (at-action3 .action3 .given .1) (at-purge .purge .ensures)
 
+same-length-4 : tie.Need-same-length-4
+same-length-4 c = search needs
+
+returns-4 : tie.Need-returns-4
+returns-4 c =
+    let at-deliver = c .before .before in
+    let at-action4 = at-deliver .before .before .before in
+    let start = at-action4 .before .before .before in
+    let x = at-action4 .action4 .given .0 in
+    by-case (start .args .out .now) (at-deliver .deliver .last .0) (at-deliver .deliver .result) (start .args .step .action) (Deliver (x .0))
+    (at-action4 .action4 .given .1) (at-deliver .deliver .ensures)
+
 pub write-step-spec : {M : Type 1} → statement M
 write-step-spec =
     tie.close
@@ -69,9 +87,13 @@ write-step-spec =
     session-requires
     enum-known-action-3
     purge-requires
+    enum-known-action-4
+    deliver-requires
     same-length
     returns
     same-length-2
     returns-2
     same-length-3
-    returns-3)
+    returns-3
+    same-length-4
+    returns-4)

@@ -1,6 +1,6 @@
 -- `length_of` meets its contract: a row for each kind.
 use native.Mathlib.Omega.{arith}
-use Rattle.faults.proofs.FaultLaws.{due-start, due-write, due-session, due-purge, due-none}
+use Rattle.faults.proofs.FaultLaws.{due-start, due-write, due-session, due-purge, due-deliver, due-none}
 use Rattle.faults.proofs.kinds.length_of.Statement.{statement}
 use Rattle.faults.proofs.kinds.length_of.Tie as tie
 
@@ -17,7 +17,10 @@ returns-4 : tie.Need-returns-4
 returns-4 c = due-purge _ (c .match .keys4)
 
 returns-5 : tie.Need-returns-5
-returns-5 c = due-none _ (omega arith) (omega arith) (omega arith) (omega arith)
+returns-5 c = due-deliver _ (c .match .keys5)
+
+returns-6 : tie.Need-returns-6
+returns-6 c = due-none _ (omega arith) (omega arith) (omega arith) (omega arith) (omega arith)
 
 pub length-of-spec : {M : Type 1} → statement M
-length-of-spec = tie.close (tie.spec returns returns-2 returns-3 returns-4 returns-5)
+length-of-spec = tie.close (tie.spec returns returns-2 returns-3 returns-4 returns-5 returns-6)

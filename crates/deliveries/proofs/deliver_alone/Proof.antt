@@ -1,0 +1,91 @@
+-- `deliveries::deliver_alone` meets its contract: refused by its one test, or what is due counted and the mark raised.
+use mathlib.Core.Path.{_≡_, ap, ap₂, _∙_}
+use mathlib.Core.List.{List}
+use Prim.Native.Nat.{ℕ, _≤_, _<_}
+use native.Mathlib.Omega.{arith}
+use lib.ListN.{length}
+use Rattle.meaning.specs.declared.Action.the-variants.{Deliver}
+use Rattle.meaning.specs.declared.Reply.the-variants.{Delivered, Refused}
+use Rattle.meaning.specs.Rows.{due, least}
+use Rattle.meaning.specs.Table.{count, node, putNode, Sound}
+use Rattle.meaning.specs.Node.{waiting, delivered}
+use Rattle.meaning.specs.Steps.{acted, reported}
+use Rattle.meaning.proofs.StepLaws.{deliver-is-3, deliver-is-0, refuse, accept}
+use Rattle.looks.specs.Applied.{Applied}
+use borrow.Author.Needs.{needs}
+use Rattle.deliveries.proofs.deliver_alone.Statement.{statement}
+use Rattle.deliveries.proofs.deliver_alone.Tie as tie
+
+module _ (t : List ℕ) (s : Sound t) (p n : ℕ) (en : n ≡ count t) where
+  absent : n ≤ p → Applied t (Deliver p) (Refused 3) t
+  absent h = refuse t (Deliver p) 2 (deliver-is-3 t s p (omega arith))
+
+  done :
+      p < n → (mark low k : ℕ) (u : List ℕ) → mark ≡ node t p .mark → low ≡ least (node t p .summary) → k ≡ length (due mark low (node t p .log)) →
+      u ≡ putNode p (delivered (node t p)) t → Applied t (Deliver p) (Delivered k) u
+  unfolding reported acted waiting
+  done h mark low k u em el ek eu =
+      let a = accept t (Deliver p) (deliver-is-0 t s p (omega arith)) in
+      (ap Delivered (ek ∙ ap₂ (λ (x y : ℕ). length (due x y (node t p .log))) em el) ∙ a .0, eu ∙ a .1)
+
+nodes-of-requires : tie.Need-nodes-of-requires
+nodes-of-requires c κs = search needs
+
+same-length : tie.Need-same-length
+same-length c = search needs
+
+returns : tie.Need-returns
+returns c =
+    let at-nodes-of = c .before in
+    let start = at-nodes-of .before .before .before in
+    absent (start .args .t .now) (start .pre) (start .args .node) (at-nodes-of .nodes-of .result) (at-nodes-of .nodes-of .ensures .0) (c .if1 .taken)
+
+held-of-requires : tie.Need-held-of-requires
+held-of-requires c κs = search needs
+
+mark-of-requires : tie.Need-mark-of-requires
+mark-of-requires c κs = search needs
+
+low-of-requires : tie.Need-low-of-requires
+low-of-requires c κs = search needs
+
+due-of-requires : tie.Need-due-of-requires
+due-of-requires c κs = search needs
+
+cast-records : tie.Need-cast-records
+cast-records c = search needs
+
+raise-mark-requires : tie.Need-raise-mark-requires
+raise-mark-requires c κs = search needs
+
+same-length-2 : tie.Need-same-length-2
+same-length-2 c = search needs
+
+returns-2 : tie.Need-returns-2
+returns-2 c =
+    let at-raise-mark = c .before .before in
+    let at-due-of = at-raise-mark .before .before in
+    let at-low-of = at-due-of .before .before in
+    let at-mark-of = at-low-of .before .before in
+    let at-if1 = at-mark-of .before .before .before .before in
+    let at-nodes-of = at-if1 .before in
+    let start = at-nodes-of .before .before .before in
+    done (start .args .t .now) (start .pre) (start .args .node) (at-nodes-of .nodes-of .result) (at-nodes-of .nodes-of .ensures .0)
+    (at-if1 .if1 .left) (at-mark-of .mark-of .result) (at-low-of .low-of .result) (at-due-of .due-of .result) (at-raise-mark .raise-mark .last .0)
+    (at-mark-of .mark-of .ensures) (at-low-of .low-of .ensures) (at-due-of .due-of .ensures .0) (at-raise-mark .raise-mark .ensures)
+
+pub deliver-alone-spec : {M : Type 1} → statement M
+deliver-alone-spec =
+    tie.close
+    (tie.spec
+    nodes-of-requires
+    same-length
+    returns
+    held-of-requires
+    mark-of-requires
+    low-of-requires
+    due-of-requires
+    cast-records
+    raise-mark-requires
+    same-length-2
+    returns-2)
