@@ -1,11 +1,13 @@
 /* The stores of each step into its table, counted (watch.h). Of a purge: none before the first record that leaves, each later row of a record that stays
  * once, one after the other, each freed row once, the held number once; none at all where nothing leaves. The same count has to find planted purges that
- * leave the right words by too many stores. Of a delivery: the mark once where it rises, and nothing else. Of the other steps: the words stored beside
- * the words that change. */
+ * leave the right words by too many stores. Of a delivery: the mark once where it rises, and nothing else. Of a session: a side that does not finish its own
+ * entry of each row once and nothing else, one that finishes its rows, its held number and the rows of the records that come, each word at most once; planted
+ * sessions that store more are found. Of the other steps: the words stored beside the words that change. */
 #define _GNU_SOURCE
 #include "watch.h"
 
 typedef uint32_t purge_call(uint32_t *, size_t, uint8_t, uint32_t *, uint32_t *);
+typedef uint32_t session_call(uint32_t *, size_t, uint8_t, uint8_t, uint32_t, uint32_t, uint8_t, uint32_t *, uint32_t *);
 
 enum { NODE = 1, LIMIT = 1000 };
 
@@ -215,13 +217,82 @@ static void meeting(uint32_t n) {
     }
 }
 
+/* Planted sessions that neither side finishes, right in every word that they leave: the own entries, or also the other entries of b's acknowledgements, or the
+ * own entries twice. */
+static void planted_side(volatile uint32_t *t, uint8_t p, uint32_t reading, int whole, int again) {
+    uint32_t low = reading;
+    for (uint32_t q = 0; q < t[COUNT]; q++)
+        if (q != p && t[summary_at(p, q)] < low) low = t[summary_at(p, q)];
+    for (uint32_t q = 0; whole && q < t[COUNT]; q++)
+        if (q != p) t[acknowledgement_at(p, q)] = t[acknowledgement_at(p, q)];
+    for (int turn = 0; turn <= again; turn++) t[summary_at(p, p)] = reading, t[acknowledgement_at(p, p)] = low;
+}
+#define PLANTED_SESSION(name, whole, again) \
+    static uint32_t name(uint32_t *t, size_t len, uint8_t a, uint8_t b, uint32_t ca, uint32_t cb, uint8_t outcome, uint32_t *to_a, uint32_t *to_b) { \
+        if (outcome != 0) return pollencart_session(t, len, a, b, ca, cb, outcome, to_a, to_b); \
+        planted_side(t, a, ca, 0, again), planted_side(t, b, cb, whole, 0); \
+        return *to_a = *to_b = 0; \
+    }
+PLANTED_SESSION(own_entries, 0, 0)
+PLANTED_SESSION(row_whole, 1, 0)
+PLANTED_SESSION(entries_twice, 0, 1)
+
+/* How often a session may store byte i of the table for its side p, that finishes and takes so many, or does not. */
+static unsigned side_allows(size_t i, uint32_t n, uint8_t p, int finishes, uint32_t held, uint32_t taken) {
+    size_t w = i / 4;
+    if (!finishes) return w == summary_at(p, p) || w == acknowledgement_at(p, p);
+    return (w >= summary_at(p, 0) && w < summary_at(p, 0) + n) || (w >= acknowledgement_at(p, 0) && w < acknowledgement_at(p, 0) + n) || w == held_at(p) ||
+           (taken > 0 && w >= record_at(p, held, 0) && w < record_at(p, held, 0) + 4 * (size_t)taken);
+}
+
+/* A session between a and b of n nodes with these readings: how many bytes it stores to too often, or of a side that does not finish not once. */
+static unsigned met(session_call *session, uint32_t n, uint8_t a, uint8_t b, uint32_t ca, uint32_t cb, uint8_t outcome) {
+    static uint32_t before[WORDS];
+    uint32_t to_a = UNSET, to_b = UNSET;
+    meeting(n);
+    memcpy(before, table, sizeof before);
+    watch_begin();
+    uint32_t answer = session(table, WORDS, a, b, ca, cb, outcome, &to_a, &to_b);
+    watch_end();
+    unsigned broken = answer != 0 || table[summary_at(a, a)] != ca || table[summary_at(b, b)] != cb;
+    for (size_t i = 0; i < REGION; i++) {
+        unsigned inside = i >= EDGE && i < EDGE + 4 * WORDS;
+        unsigned of_a = inside && side_allows(i - EDGE, n, a, outcome & 1, before[held_at(a)], to_a);
+        unsigned of_b = inside && side_allows(i - EDGE, n, b, outcome & 2, before[held_at(b)], to_b);
+        broken += times[i] > of_a + of_b;
+        broken += (of_a && !(outcome & 1) && times[i] != 1) || (of_b && !(outcome & 2) && times[i] != 1);
+    }
+    return broken;
+}
+
+static unsigned all_sessions(session_call *session, const char *told_of, unsigned *many) {
+    static const uint32_t n[] = {2, 3, 16}, readings[] = {108, 9000, 0xFFFFFFFF};
+    unsigned broken = 0;
+    for (size_t i = 0; i < LENGTH(n); i++)
+        for (uint8_t a = 0; a < n[i]; a++)
+            for (uint8_t b = 0; b < n[i]; b++)
+                for (uint8_t outcome = 0; outcome < 4; outcome++) {
+                    if (a == b || (a > 2 && b > 2 && a + 1u < n[i] && b + 1u < n[i])) continue;
+                    uint32_t ca = readings[(a + outcome) % 3], cb = readings[(b + outcome) % 3];
+                    unsigned bytes = met(session, n[i], a, b, ca, cb, outcome);
+                    if (bytes && told_of) printf("FAILED: %s: nodes %u and %u of %u, outcome %u: %u bytes\n", told_of, a, b, n[i], outcome, bytes);
+                    broken += bytes != 0, (*many)++;
+                }
+    return broken;
+}
+
 int main(void) {
     watch_open();
     unsigned runs = 0, total = 0, none = 0, ignored = 0;
     unsigned broken = all_purges(pollencart_purge, "the library", &runs, &total);
     expect(broken == 0, "purges", "within their bounds");
     all_deliveries();
+    unsigned sessions = 0;
+    expect(all_sessions(pollencart_session, "the library", &sessions) == 0, "sessions", "within their bounds");
 #ifdef OWN_MEMSET
+    expect(all_sessions(own_entries, "a sparing session in C", &ignored) == 0, "the count", "lets a sparing session pass");
+    expect(all_sessions(row_whole, NULL, &ignored) > 0, "planted", "a row stored whole by a side that does not finish");
+    expect(all_sessions(entries_twice, NULL, &ignored) > 0, "planted", "the own entries stored twice");
     expect(all_purges(sparing, "a sparing purge in C", &ignored, &none) == 0, "the count", "lets a sparing purge pass");
     expect(all_purges(one_early, NULL, &ignored, &none) > 0, "planted", "a row stored before the first that leaves");
     expect(all_purges(rows_twice, NULL, &ignored, &none) > 0, "planted", "each moved row stored twice");
@@ -239,11 +310,12 @@ int main(void) {
         meeting(n[i]), beside("a purge of two of eight", purge_step), beside("a purge of none", purge_step);
         meeting(n[i]), beside("a delivery of some", deliver_step), beside("a delivery of none", deliver_step);
     }
-    printf("writes: %u purges by %u stores within their bounds, 4 planted faults found, %lu checks, %lu failed\n", runs, total, checks, failures);
+    printf("writes: %u purges by %u stores and %u sessions within their bounds, 6 planted faults found, %lu checks, %lu failed\n", runs, total, sessions, checks, failures);
 #else
-    (void)none, (void)ignored, (void)sparing, (void)one_early, (void)rows_twice, (void)held_anew, (void)cleared_twice, (void)beside, (void)meeting;
+    (void)none, (void)ignored, (void)sparing, (void)one_early, (void)rows_twice, (void)held_anew, (void)cleared_twice, (void)beside, (void)own_entries, (void)row_whole, (void)entries_twice;
     (void)deliver_step, (void)write_step, (void)session_0, (void)session_1, (void)session_2, (void)session_3, (void)purge_step, (void)refused_step, (void)least, (void)most;
-    printf("writes: with the C library's memset: %u purges by %u stores, %lu of %lu freed bytes stored more than once by it, %lu failed\n", runs, total, freed_again, freed, failures);
+    printf("writes: with the C library's memset: %u purges by %u stores, %lu of %lu freed bytes stored more than once by it, %u sessions, %lu failed\n", runs, total, freed_again, freed, sessions,
+           failures);
 #endif
     return failures != 0;
 }

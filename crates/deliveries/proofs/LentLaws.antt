@@ -12,7 +12,7 @@ use Rattle.meaning.specs.declared.Action.the-variants.{Deliver}
 use Rattle.meaning.specs.declared.Reply.the-variants.{Refused}
 use Rattle.meaning.specs.Rows.{keep, due, records, words}
 use Rattle.meaning.specs.Refusals.{first}
-use Rattle.meaning.specs.Table.{count, held, logMost, logAt, node, part, place, sound, Sound}
+use Rattle.meaning.specs.Table.{count, held, logMost, logAt, mark, node, part, place, sound, Sound}
 use Rattle.meaning.proofs.PlaceLaws.{length-part}
 use Rattle.meaning.specs.Node.{waiting, given}
 use Rattle.meaning.specs.Steps.{refusals, acted, reported, dueOf, lentRefusals, lentRefusal, lentReply, lentAfter, listAfter}
@@ -82,13 +82,13 @@ module _ (t : List ℕ) (p k : ℕ) where
     unfolding lentRefusal lentRefusals refusals first
     lent-is-3 h = rw (facts-sound t s, le-leb (count t) p h)
 
-    pub lent-is-7 : p < count t → k < 4 * length (waiting (node t p)) → lentRefusal t k (Deliver p) ≡ 7
+    pub lent-is-7 : p < count t → k < 4 * length (waiting (mark t p) (node t p)) → lentRefusal t k (Deliver p) ≡ 7
     unfolding lentRefusal lentRefusals refusals first dueOf
-    lent-is-7 h g = rw (facts-sound t s, lt-leb (count t) p h, lt-ltb k (4 * length (waiting (node t p))) g)
+    lent-is-7 h g = rw (facts-sound t s, lt-leb (count t) p h, lt-ltb k (4 * length (waiting (mark t p) (node t p))) g)
 
-    pub lent-is-0 : p < count t → 4 * length (waiting (node t p)) ≤ k → lentRefusal t k (Deliver p) ≡ 0
+    pub lent-is-0 : p < count t → 4 * length (waiting (mark t p) (node t p)) ≤ k → lentRefusal t k (Deliver p) ≡ 0
     unfolding lentRefusal lentRefusals refusals first dueOf
-    lent-is-0 h g = rw (facts-sound t s, lt-leb (count t) p h, le-ltb k (4 * length (waiting (node t p))) g)
+    lent-is-0 h g = rw (facts-sound t s, lt-leb (count t) p h, le-ltb k (4 * length (waiting (mark t p) (node t p))) g)
 
 -- How code answers: a refusal, or what was done
 module _ (t list : List ℕ) (p : ℕ) where
@@ -98,6 +98,6 @@ module _ (t list : List ℕ) (p : ℕ) where
 
   pub lent-accept :
       lentRefusal t (length list) (Deliver p) ≡ 0 →
-      Lent t list p (reported t (Deliver p)) (acted t (Deliver p)) (place 0 (words (given (node t p))) list)
+      Lent t list p (reported t (Deliver p)) (acted t (Deliver p)) (place 0 (words (given (mark t p) (node t p))) list)
   unfolding lentReply lentAfter listAfter
   lent-accept h = (rw h, rw h, rw h)

@@ -6,8 +6,8 @@ ghost use lib.ListN.{length};
 ghost use lib.Dec.{ltb};
 ghost use Rattle.meaning.specs.declared.Action.the-variants.{Deliver};
 ghost use Rattle.meaning.specs.Rows.{due, inOrder, least, words};
-ghost use Rattle.meaning.specs.Table.{logMost, count, node, place, putNode, Sound};
-ghost use Rattle.meaning.specs.Node.{delivered};
+ghost use Rattle.meaning.specs.Table.{logMost, count, node, place, putMark, Sound};
+ghost use Rattle.meaning.specs.Node.{raised};
 ghost use Rattle.looks.specs.Applied.{Applied};
 ghost use Rattle.deliveries.specs.Lent.{Lent};
 use lists::due_count;
@@ -69,8 +69,8 @@ fn fill(t: &[u32], list: &mut [u32], p: usize, held: usize, mark: u32, limit: u3
 
 // "raises the mark to that entry where it is greater": else no word is written.
 fn raise_mark(t: &mut [u32], p: usize, mark: u32, limit: u32)
-    requires { ⌜ Sound (now t) × (p < count (now t)) × (mark ≡ node (now t) p .mark) × (limit ≡ least (node (now t) p .summary)) ⌝ }
-    ensures { λ _. ⌜ now (t .exit) ≡ putNode p (delivered (node (now (t .entry)) p)) (now (t .entry)) ⌝ }
+    requires { ⌜ Sound (now t) × (p < count (now t)) × (mark ≡ Rattle.meaning.specs.Table.mark (now t) p) × (limit ≡ least (node (now t) p .summary)) ⌝ }
+    ensures { λ _. ⌜ now (t .exit) ≡ putMark p (raised mark (node (now (t .entry)) p)) (now (t .entry)) ⌝ }
 {
     if mark < limit {
         put_word(t, layout::mark_at(p), limit);

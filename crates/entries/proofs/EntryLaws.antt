@@ -104,7 +104,7 @@ module _ (t : List ℕ) (p : ℕ) where
   no-mark h = rw h
 
   pub mark-is : (at : ℕ) → present t p ≡ true → at ≡ markAt p → getD t at 0 ≡ markEntry t p
-  unfolding markEntry node mark
+  unfolding markEntry mark
   mark-is at h e = rw h (ap (λ (i : ℕ). getD t i 0) e)
 
   module _ (i k : ℕ) where

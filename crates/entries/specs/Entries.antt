@@ -6,7 +6,7 @@ use lib.ListN.{length, getD}
 use lib.Dec.{ltb}
 use Rattle.meaning.specs.declared.Record.{Record}
 use Rattle.meaning.specs.Rows.{words}
-use Rattle.meaning.specs.Table.{count, node, sound}
+use Rattle.meaning.specs.Table.{count, mark, node, sound}
 
 -- the table is sound and has a node p
 unfoldable pub present : List ℕ → ℕ → Bool
@@ -34,4 +34,4 @@ recordWord t p i k = cond (present t p) (getD (words (getD (node t p .log) i not
 
 -- "each node has a mark, at first 0"
 unfoldable pub markEntry : List ℕ → ℕ → ℕ
-markEntry t p = cond (present t p) (node t p .mark) 0
+markEntry t p = cond (present t p) (mark t p) 0

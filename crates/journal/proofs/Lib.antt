@@ -1,4 +1,3 @@
-pub mod Agreeing
 pub mod OneReply
 pub mod Passing
 pub mod Values

@@ -1,18 +1,12 @@
 -- Two replies that a public contract of this crate allows are equal. Nothing is lent to be written.
--- A part that is handed back is settled in the place at which it stands and in its bytes.
 use mathlib.Core.Path.{sym, _∙_}
-use Rattle.meaning.proofs.OneReply.{OneReply, OneResult}
-use Rattle.finder.proofs.OnePart.{seen, one-part}
+use Rattle.meaning.proofs.OneReply.{OneResult}
 use Rattle.journal.proofs.next_at.Kinds as next-at-kinds
 use Rattle.journal.proofs.next_at.Reads as next-at
 use Rattle.journal.proofs.next_in.Kinds as next-in-kinds
 use Rattle.journal.proofs.next_in.Reads as next-in
 use Rattle.journal.proofs.said.Kinds as said-kinds
 use Rattle.journal.proofs.said.Reads as said
-use Rattle.journal.proofs.part_at.Kinds as part-at-kinds
-use Rattle.journal.proofs.part_at.Reads as part-at
-use Rattle.journal.proofs.position_at.Kinds as position-at-kinds
-use Rattle.journal.proofs.position_at.Reads as position-at
 
 pub one-next-at : OneResult 1 next-at-kinds.ps next-at-kinds.r next-at.Post
 one-next-at κs a x y s s' p q = p ∙ sym q
@@ -22,9 +16,3 @@ one-next-in κs a x y s s' p q = p ∙ sym q
 
 pub one-said : OneResult 1 said-kinds.ps said-kinds.r said.Post
 one-said κs a x y s s' p q = p ∙ sym q
-
-pub one-part-at : OneReply 1 part-at-kinds.ps part-at-kinds.r part-at.Post (λ κs x s. seen x)
-one-part-at κs a x y s s' p q = one-part p q
-
-pub one-position-at : OneResult 1 position-at-kinds.ps position-at-kinds.r position-at.Post
-one-position-at κs a x y s s' p q = p ∙ sym q

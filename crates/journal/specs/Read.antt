@@ -1,4 +1,4 @@
--- The part and the position that go with what the reader finds, and the values of its answers, by place and bytes.
+-- The values of the reader's answers, by place and bytes.
 -- Document 01, "Frames and journals".
 use mathlib.Core.Bool.{Bool, true, false, cond}
 use mathlib.Core.List.{List, [], _∷_, _++_}
@@ -6,14 +6,7 @@ use Prim.Native.Nat.{ℕ, zero, suc}
 use lib.ListN.{length, drop}
 use lib.Dec.{leb, eqb}
 use Rattle.meaning.specs.Frames.{readLine, lineValues}
-use Rattle.meaning.specs.Journals.{unended, lineAt, placeAfter, nextAt, handedBack, position}
-
--- the part that goes with what the reader finds at a place, told the line number, and the position afterwards
-abbrev pub partAt : List ℕ → ℕ → ℕ → List ℕ
-partAt s at line = handedBack (nextAt s at line) (lineAt s at)
-
-abbrev pub positionAt : List ℕ → ℕ → ℕ → ℕ
-positionAt s at line = position at (nextAt s at line)
+use Rattle.meaning.specs.Journals.{unended, lineAt, placeAfter}
 
 -- "the first line is no start, a later line is one": whether a line of this kind comes in its turn
 abbrev pub isTurn : Bool → Bool → Bool

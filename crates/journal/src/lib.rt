@@ -1,10 +1,8 @@
-// The journal reader on a slice and a place: what the line there says, its part and the place after it.
+// The journal reader on a slice and a place: what the line there says, in its turn. Its part and the place after it are `lineparts`'.
 // Document 01, "Frames and journals".
 ghost use mathlib.Core.Path.{_≡_};
 ghost use Rattle.meaning.specs.Frames.{readLine};
 ghost use Rattle.meaning.specs.Journals.{nextIn, nextAt, inTurn};
-ghost use Rattle.finder.specs.Parts.{Part};
-ghost use Rattle.journal.specs.Read.{partAt, positionAt};
 use finder::Found;
 use finder::find;
 use meaning::Line;
@@ -69,31 +67,4 @@ pub fn next_at(s: &[u8], at: usize, line: usize) -> Next
     ensures { λ r. ⌜ r ≡ nextAt (now (s .entry)) at line ⌝ }
 {
     next_in(s, at, line, at == 0)
-}
-
-// "hands back each line ..; with a refusal the part is empty"
-pub fn part_at(s: &[u8], at: usize, line: usize) -> &[u8]
-    ensures { λ r. ⌜ Part (s .entry) at (partAt (now (s .entry)) at line) r ⌝ }
-{
-    match next_at(s, at, line) {
-        Next::Begin { n: _, next } => &s[at..next - 1],
-        Next::Act { step: _, next } => &s[at..next - 1],
-        Next::Refused { .. } => &s[at..at],
-        Next::End => {
-            let end = s.len();
-            &s[end..end]
-        }
-    }
-}
-
-// The position afterwards: "A refused line .. leaves the position at that line's start."
-pub fn position_at(s: &[u8], at: usize, line: usize) -> usize
-    ensures { λ r. ⌜ r ≡ positionAt (now (s .entry)) at line ⌝ }
-{
-    match next_at(s, at, line) {
-        Next::Begin { n: _, next } => next,
-        Next::Act { step: _, next } => next,
-        Next::Refused { .. } => at,
-        Next::End => at,
-    }
 }

@@ -1,2 +1,1 @@
-pub mod SortLaws
 pub mod ListLaws

@@ -1,7 +1,7 @@
 // Words of a sound table, read through their offsets.
 ghost use mathlib.Core.Path.{_≡_};
 ghost use Prim.Native.Nat.{_≤_, _<_};
-ghost use Rattle.meaning.specs.Table.{nodesMost, logMost, count, held, node, Sound};
+ghost use Rattle.meaning.specs.Table.{nodesMost, logMost, count, held, mark, node, Sound};
 ghost use Rattle.meaning.specs.Node.{own};
 
 // n, the number of nodes.
@@ -32,7 +32,7 @@ pub fn own_of(t: &[u32], p: usize) -> u32
 // Node p's mark.
 pub fn mark_of(t: &[u32], p: usize) -> u32
     requires { ⌜ Sound (now t) × (p < count (now t)) ⌝ }
-    ensures { λ r. ⌜ r ≡ node (now (t .entry)) p .mark ⌝ }
+    ensures { λ r. ⌜ r ≡ mark (now (t .entry)) p ⌝ }
 {
     t[layout::mark_at(p)]
 }

@@ -12,7 +12,7 @@ use borrow.Author.Tests.{eqb-true, eqb-false, eq-eqb, ne-eqb}
 use Rattle.meaning.specs.declared.Record.{Record}
 use Rattle.meaning.specs.declared.Action.the-variants.{Write, Session, Purge, Deliver}
 use Rattle.meaning.specs.Table.{Node}
-use Rattle.meaning.specs.Node.{own, wrote, opened, finished, ended, purged, delivered}
+use Rattle.meaning.specs.Node.{own, wrote, opened, finished, ended, purged}
 use Rattle.meaning.specs.Steps.{finishesA, finishesB}
 use Rattle.meaning.specs.Account.{sameRecord, has, lacking, Account, gains, gainsIf, noted}
 use Rattle.meaning.proofs.AccountLaws.{by-test, not-both, same-eq, has-append, has-one, once-append, entry}
@@ -220,28 +220,18 @@ module _ (n : ℕ) (nodes nodes′ : ℕ → Node) (x : Account) (p limit : ℕ)
             (settled-holds n nodes nodes′ x same-summary k q h));
       }
 
-module _ (n : ℕ) (nodes nodes′ : ℕ → Node) (x : Account) (p : ℕ) (below : p < n)
-    (here : nodes′ p ≡ delivered (nodes p)) (there : (q : ℕ) → q < n → (q ≡ p → ⊥) → nodes′ q ≡ nodes q) (k : Whole n nodes x) where
-  mark-only : (q : ℕ) → q < n → nodes′ q .summary ≡ nodes q .summary
-  unfolding delivered
-  mark-only =
-      each (λ (q : ℕ). nodes′ q .summary ≡ nodes q .summary) n p
-      (ap (λ (y : Node). y .summary) here)
-      (λ q h ne. ap (λ (y : Node). y .summary) (there q h ne))
-
-  pub whole-deliver : Whole n nodes′ (noted (Deliver p) x)
-  unfolding noted delivered
-  whole-deliver =
-      let old = settled-holds n nodes nodes′ x mark-only k in
-      record {
-        once = k .once;
-        stamped = settled-stamped n nodes nodes′ x mark-only k;
-        holds =
-            each (λ (q : ℕ). Holds n (world nodes′ x) (nodes′ q) (x .of q)) n p
-            (holds-at n (world nodes′ x) (nodes′ p) (delivered (nodes p)) (x .of p) (x .of p) here refl
-            (record { kept = old p below .kept; acked = old p below .acked }))
-            (λ q h ne. holds-at n (world nodes′ x) (nodes′ q) (nodes q) (x .of q) (x .of q) (there q h ne) refl (old q h));
-      }
+-- a delivery changes no node at all
+pub whole-deliver :
+    (n : ℕ) (nodes nodes′ : ℕ → Node) (x : Account) (p : ℕ) → ((q : ℕ) → q < n → nodes′ q ≡ nodes q) → Whole n nodes x → Whole n nodes′ (noted (Deliver p) x)
+unfolding noted
+whole-deliver n nodes nodes′ x p same k =
+    let same-summary : (q : ℕ) → q < n → nodes′ q .summary ≡ nodes q .summary = λ q h. ap (λ (y : Node). y .summary) (same q h) in
+    record {
+      once = k .once;
+      stamped = settled-stamped n nodes nodes′ x same-summary k;
+      holds = λ q h.
+          holds-at n (world nodes′ x) (nodes′ q) (nodes q) (x .of q) (x .of q) (same q h) refl (settled-holds n nodes nodes′ x same-summary k q h);
+    }
 
 -- Session --------------------------------------------------------------------------------------------------------------------------------
 

@@ -10,7 +10,7 @@ use Rattle.meaning.specs.declared.Action.{Action}
 use Rattle.meaning.specs.declared.Action.the-variants.{Write, Session, Purge, Deliver}
 use Rattle.meaning.specs.declared.Step.{Step}
 use Rattle.meaning.specs.Table.{nodesMost, summaryAt, acksAt, count, node, fresh}
-use Rattle.meaning.specs.Node.{wrote, purged, delivered}
+use Rattle.meaning.specs.Node.{wrote, purged}
 use Rattle.meaning.specs.Steps.{limit, refusal, acted}
 use Rattle.meaning.specs.Account.{has, Account, nothing, noted, Run, noteIf, stepped, Event, AStep, befell, ran, run}
 use Rattle.meaning.proofs.PlaceLaws.{getD-part}
@@ -24,10 +24,10 @@ use Rattle.meaning.proofs.StepLaws.{
   may-deliver,
   write-shaped,
   purge-shaped,
-  deliver-shaped,
   session-a,
   session-b,
   session-other,
+  deliver-node,
   acted-count,
   fresh-count,
   fresh-word,
@@ -119,12 +119,7 @@ whole-acted t (Purge p) x k w =
     (node-same t s p (m .here) (purged (limit t p) (node t p)) fits)
     (node-other t s p (m .here) (purged (limit t p) (node t p)) fits) w
 whole-acted t (Deliver p) x k w =
-    let m = may-deliver t p k in
-    let s = m .isSound in
-    let fits = deliver-shaped t p m in
-    whole-deliver (count t) (node t) (node (acted t (Deliver p))) x p (m .here)
-    (node-same t s p (m .here) (delivered (node t p)) fits)
-    (node-other t s p (m .here) (delivered (node t p)) fits) w
+    whole-deliver (count t) (node t) (node (acted t (Deliver p))) x p (deliver-node t p (may-deliver t p k)) w
 
 -- what a step leaves of a run, accepted or refused
 pub stepped-accepted : (x : Run) (s : Step) → refusal (x .table) (s .action) ≡ 0 →

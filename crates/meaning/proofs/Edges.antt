@@ -29,12 +29,13 @@ use Rattle.meaning.specs.Table.{
   lay,
   pieces,
   putNode,
+  putMark,
   fresh,
   recordSound,
   logSound,
   sound,
 }
-use Rattle.meaning.specs.Node.{own, wrote, opened, finished, purged, waiting, given, delivered}
+use Rattle.meaning.specs.Node.{own, wrote, opened, finished, purged, waiting, given, raised}
 use Rattle.meaning.specs.Steps.{
   refusals,
   refusal,
@@ -161,45 +162,10 @@ refused k = k ∷ 0 ∷ 0 ∷ []
 gives : List ℕ → ℕ → ℕ → List ℕ
 gives t k p = replyValues (lentReply t k (Deliver p)) ++ (changes 0 t (lentAfter t k (Deliver p)) ++ listAfter t (replicate k 7) p)
 
--- a fresh table of 2 after some actions
+-- a table after some actions
 reached : List ℕ → List Action → List ℕ
 reached t [] = t
 reached t (x ∷ xs) = reached (after t x) xs
-
-abbrev two : List ℕ
-two = fresh 2
-
--- node 0 wrote at 1
-abbrev one : List ℕ
-one = reached two (Write 0 1 16 0x20 ∷ [])
-
--- node 0 holds timestamps 5 and 6, and its smallest acknowledgement is 5
-abbrev five : List ℕ
-five = reached two (Write 0 5 16 0x20 ∷ Session 0 1 5 5 3 ∷ Write 0 6 17 0x20 ∷ Session 0 1 6 5 3 ∷ [])
-
--- the same after a delivery, so that the mark is 5
-abbrev fiveTold : List ℕ
-fiveTold = reached five (Deliver 0 ∷ [])
-
--- node 0 holds 5 and 6, every acknowledgement of it is 6, and it delivered before 6 was written
-abbrev sixTold : List ℕ
-sixTold = reached two (Write 0 5 16 0x20 ∷ Session 0 1 5 5 3 ∷ Deliver 0 ∷ Write 0 6 17 0x20 ∷ Session 0 1 6 6 3 ∷ Session 0 1 6 6 3 ∷ [])
-
--- node 0 holds its own 5 and, after it, node 1's 4; node 1 the other way round; both summaries are 5 throughout
-abbrev mixed : List ℕ
-mixed = reached two (Write 0 5 16 0x20 ∷ Write 1 4 17 0x20 ∷ Session 0 1 5 5 3 ∷ [])
-
--- both wrote at 5
-abbrev tied : List ℕ
-tied = reached two (Write 0 5 16 0x20 ∷ Write 1 5 17 0x20 ∷ Session 0 1 5 5 3 ∷ [])
-
--- two records of one writer and one timestamp: a sound table that no run reaches
-abbrev double : List ℕ
-double = place (logAt 1) (0 ∷ 5 ∷ 9 ∷ 0x20 ∷ 0 ∷ 5 ∷ 8 ∷ 0x20 ∷ []) (place (heldAt 1) (2 ∷ []) (place (summaryAt 1) (5 ∷ 5 ∷ []) two))
-
--- node 1 holds a record that no summary covers: a sound table that no run reaches
-abbrev odd : List ℕ
-odd = place (logAt 1) (0 ∷ 9 ∷ 16 ∷ 0x20 ∷ []) (place (heldAt 1) (1 ∷ []) two)
 
 -- words beyond the held number, beyond n entries and beyond n nodes, which no step names
 abbrev marked : List ℕ → List ℕ
@@ -207,17 +173,9 @@ marked t =
     place (logAt 0 + 4 * 2) (7 ∷ 7 ∷ 7 ∷ 7 ∷ [])
     (place (summaryAt 0 + 2) (7 ∷ []) (place (acksAt 1 + 2) (7 ∷ []) (place (heldAt 2) (7 ∷ []) (place (logAt 2) (7 ∷ []) t))))
 
--- document 01's journal up to its first purge
-abbrev early : List ℕ
-early = reached two (Write 0 5 16 16 ∷ Session 0 1 6 4 3 ∷ Session 0 1 7 7 1 ∷ [])
-
 -- a fresh table of n whose node 0 has these acknowledgements
 abbrev acked : ℕ → List ℕ → List ℕ
 acked n row = place (acksAt 0) row (fresh n)
-
--- node 0 has acknowledged 8 and knows node 1 to be at 6
-abbrev behind : List ℕ
-behind = reached five (Session 0 1 9 8 3 ∷ Session 0 1 9 9 0 ∷ Deliver 0 ∷ [])
 
 -- one record of this verdict, counted: refusal, scrubbed, touched
 verdict : ℕ → List ℕ
@@ -240,14 +198,36 @@ told =
 
 pub rows : List Row
 unfolding every keep least leastAt raise covers newer above due earlier inserted inOrder recordAt records words part place count held mark node lay
-    pieces putNode fresh recordSound logSound
-    sound own wrote opened finished purged waiting given delivered refusals refusal limit lagging acted reported reply after dueOf lentRefusals
+    pieces putNode putMark fresh recordSound logSound
+    sound own wrote opened finished purged waiting given raised refusals refusal limit lagging acted reported reply after dueOf lentRefusals
     lentRefusal lentReply lentAfter listAfter digit digitValue spelled bytesOf allDigits strayAt total
     check journalKinds knownIn widthsIn digitsIn fieldPlaceIn highFirst number packed unpacked actionOf sealed frameIn frame startFrame lineKind
     fieldsIn first firstPlace fieldTests lineTests lineRefusal linePlace readLine untilLF hasLF unended lineAt placeAfter nextIn stepsFrom journal
     afterAll refusedOf replayed replayAfter decimalIn decimal spaced said nodeLine nodeLines printed classOf scrubbed touched counted countRefusal
     verdictCount changes does answers refused gives reached verdict line replays example told same Holds
 rows =
+    -- the tables that rows begin from, each computed once
+    let two : List ℕ = fresh 2 in
+    -- node 0 wrote at 1
+    let one : List ℕ = reached two (Write 0 1 16 0x20 ∷ []) in
+    -- node 0 holds timestamps 5 and 6, and its smallest acknowledgement is 5
+    let five : List ℕ = reached two (Write 0 5 16 0x20 ∷ Session 0 1 5 5 3 ∷ Write 0 6 17 0x20 ∷ Session 0 1 6 5 3 ∷ []) in
+    -- the same after a delivery, so that the mark is 5
+    let fiveTold : List ℕ = reached five (Deliver 0 ∷ []) in
+    -- node 0 holds 5 and 6, every acknowledgement of it is 6, and it delivered before 6 was written
+    let sixTold : List ℕ = reached two (Write 0 5 16 0x20 ∷ Session 0 1 5 5 3 ∷ Deliver 0 ∷ Write 0 6 17 0x20 ∷ Session 0 1 6 6 3 ∷ Session 0 1 6 6 3 ∷ []) in
+    -- node 0 holds its own 5 and, after it, node 1's 4; node 1 the other way round; both summaries are 5 throughout
+    let mixed : List ℕ = reached two (Write 0 5 16 0x20 ∷ Write 1 4 17 0x20 ∷ Session 0 1 5 5 3 ∷ []) in
+    -- both wrote at 5
+    let tied : List ℕ = reached two (Write 0 5 16 0x20 ∷ Write 1 5 17 0x20 ∷ Session 0 1 5 5 3 ∷ []) in
+    -- two records of one writer and one timestamp: a sound table that no run reaches
+    let double : List ℕ = place (logAt 1) (0 ∷ 5 ∷ 9 ∷ 0x20 ∷ 0 ∷ 5 ∷ 8 ∷ 0x20 ∷ []) (place (heldAt 1) (2 ∷ []) (place (summaryAt 1) (5 ∷ 5 ∷ []) two)) in
+    -- node 1 holds a record that no summary covers: a sound table that no run reaches
+    let odd : List ℕ = place (logAt 1) (0 ∷ 9 ∷ 16 ∷ 0x20 ∷ []) (place (heldAt 1) (1 ∷ []) two) in
+    -- document 01's journal up to its first purge
+    let early : List ℕ = reached two (Write 0 5 16 16 ∷ Session 0 1 6 4 3 ∷ Session 0 1 7 7 1 ∷ []) in
+    -- node 0 has acknowledged 8 and knows node 1 to be at 6
+    let behind : List ℕ = reached five (Session 0 1 9 8 3 ∷ Session 0 1 9 9 0 ∷ Deliver 0 ∷ []) in
     row "write at 0" (does two (Write 0 0 16 0x20)) (refused 5) tt ∷
     row "write at 1" (does two (Write 0 1 16 0x20)) (0 ∷ 0 ∷ 0 ∷ 1 ∷ 1 ∷ 513 ∷ 1 ∷ 530 ∷ 1 ∷ 531 ∷ 16 ∷ 532 ∷ 0x20 ∷ []) tt ∷
     row "a second write at 1" (does one (Write 0 1 17 0x20)) (refused 5) tt ∷
@@ -408,11 +388,11 @@ edges = all-hold rows
 
 -- "session 0 with 0: 4, whatever the readings", and whatever the outcome; one above 3 is refused with 2 before. No word changes.
 pub itself : (ca cb outcome : ℕ)
-    → (reply two (Session 0 0 ca cb outcome) ≡ Refused (cond (ltb 3 outcome) 2 4)) × (after two (Session 0 0 ca cb outcome) ≡ two)
+    → (reply (fresh 2) (Session 0 0 ca cb outcome) ≡ Refused (cond (ltb 3 outcome) 2 4)) × (after (fresh 2) (Session 0 0 ca cb outcome) ≡ fresh 2)
 unfolding every least raise recordAt records part place count held node fresh recordSound logSound sound first refusals refusal reply after
 itself ca cb outcome = go (ltb 3 outcome) refl
   where
     go : (b : Bool) → ltb 3 outcome ≡ b
-        → (reply two (Session 0 0 ca cb outcome) ≡ Refused (cond (ltb 3 outcome) 2 4)) × (after two (Session 0 0 ca cb outcome) ≡ two)
+        → (reply (fresh 2) (Session 0 0 ca cb outcome) ≡ Refused (cond (ltb 3 outcome) 2 4)) × (after (fresh 2) (Session 0 0 ca cb outcome) ≡ fresh 2)
     go true e = rw e (refl, refl)
     go false e = rw e (refl, refl)

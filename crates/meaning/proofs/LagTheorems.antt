@@ -10,13 +10,13 @@ use lib.ListN.{length, getD}
 use Rattle.meaning.specs.declared.Record.{Record}
 use Rattle.meaning.specs.declared.Action.the-variants.{Purge}
 use Rattle.meaning.specs.Rows.{least, above}
-use Rattle.meaning.specs.Table.{Node, count, node}
+use Rattle.meaning.specs.Table.{Node, count, mark, node}
 use Rattle.meaning.specs.Node.{purged}
 use Rattle.meaning.specs.Account.{has}
 use Rattle.meaning.specs.Steps.{refusal, limit, lagging, acted, reported, reply, after, replyValues}
 use Rattle.meaning.proofs.RowLaws.{leastAt-below, leastAt-entry, leastAt-first}
 use Rattle.meaning.proofs.TableLaws.{node-shaped, node-same}
-use Rattle.meaning.proofs.StepLaws.{may-purge, purge-shaped, after-accepted}
+use Rattle.meaning.proofs.StepLaws.{may-purge, purge-shaped, purge-mark, after-accepted}
 use Rattle.meaning.proofs.AccountLaws.{entry, has-above}
 
 module _ (t : List ℕ) (p : ℕ) (k : refusal t (Purge p) ≡ 0) where
@@ -43,9 +43,9 @@ module _ (t : List ℕ) (p : ℕ) (k : refusal t (Purge p) ≡ 0) where
   lagging-least = leastAt-entry (node t p .acks) some
 
   -- what the purge goes by is that node's acknowledgement, or the mark where that is smaller
-  pub lagging-limit : limit t p ≡ min (entry (node t p .acks) (lagging t p)) (node t p .mark)
+  pub lagging-limit : limit t p ≡ min (entry (node t p .acks) (lagging t p)) (mark t p)
   unfolding limit
-  lagging-limit = ap (λ (k : ℕ). min k (node t p .mark)) (sym lagging-least)
+  lagging-limit = ap (λ (k : ℕ). min k (mark t p)) (sym lagging-least)
 
   -- and every lower node's is greater
   pub lagging-first : (q : ℕ) → q < lagging t p → entry (node t p .acks) (lagging t p) < entry (node t p .acks) q
@@ -72,12 +72,11 @@ module _ (t : List ℕ) (p : ℕ) (k : refusal t (Purge p) ≡ 0) where
   log-left = ap (λ (x : Node). x .log) left
 
   -- and no mark
-  pub purge-mark : node (after t (Purge p)) p .mark ≡ node t p .mark
-  unfolding purged
-  purge-mark = ap (λ (x : Node). x .mark) left
+  pub purge-marks : (q : ℕ) → mark (after t (Purge p)) q ≡ mark t q
+  purge-marks q = ap (λ (u : List ℕ). mark u q) (after-accepted t (Purge p) k) ∙ purge-mark t p (may-purge t p k) q
 
   -- what was delivered and is still held is above the acknowledgement of the node told, as it stood and as it stands
-  pub held-above : (r : Record) → has r (node (after t (Purge p)) p .log) ≡ true → r .timestamp ≤ node t p .mark
+  pub held-above : (r : Record) → has r (node (after t (Purge p)) p .log) ≡ true → r .timestamp ≤ mark t p
       → entry (node t p .acks) (lagging t p) < r .timestamp
   held-above r h delivered =
       let e = lagging-limit in
@@ -85,11 +84,11 @@ module _ (t : List ℕ) (p : ℕ) (k : refusal t (Purge p) ≡ 0) where
       omega arith
 
   pub held-by-lagging :
-      (r : Record) → has r (node (after t (Purge p)) p .log) ≡ true → r .timestamp ≤ node (after t (Purge p)) p .mark
+      (r : Record) → has r (node (after t (Purge p)) p .log) ≡ true → r .timestamp ≤ mark (after t (Purge p)) p
       → entry (node (after t (Purge p)) p .acks) (lagging t p) < r .timestamp
   held-by-lagging r h delivered =
       let e = ap (λ (row : List ℕ). entry row (lagging t p)) purge-acks in
-      let m = purge-mark in
+      let m = purge-marks p in
       let above = held-above r h (omega arith) in
       omega arith
 

@@ -12,7 +12,7 @@ use Rattle.meaning.specs.declared.Action.{Action}
 use Rattle.meaning.specs.declared.Action.the-variants.{Write, Session, Purge, Deliver}
 use Rattle.meaning.specs.Rows.{unless, least, due}
 use Rattle.meaning.specs.Refusals.{test}
-use Rattle.meaning.specs.Table.{Node, logMost, node}
+use Rattle.meaning.specs.Table.{Node, logMost, mark, node}
 use Rattle.meaning.specs.Node.{waiting, given}
 use Rattle.meaning.specs.Steps.{refusals, refusal, acted, reported, replied, reply, after, dueOf, lentRefusals, lentRefusal, lentReply, lentAfter}
 use Rattle.meaning.proofs.RowLaws.{length-keep}
@@ -23,13 +23,13 @@ use Rattle.meaning.proofs.AccountLaws.{by-test}
 use Rattle.meaning.proofs.OrderLaws.{length-inOrder}
 
 -- what is given are as many records as are due, and no more than the log has
-pub length-given : (x : Node) → length (given x) ≡ length (waiting x)
+pub length-given : (m : ℕ) (x : Node) → length (given m x) ≡ length (waiting m x)
 unfolding given
-length-given x = length-inOrder (waiting x)
+length-given m x = length-inOrder (waiting m x)
 
-pub waiting-few : (x : Node) → length (waiting x) ≤ length (x .log)
+pub waiting-few : (m : ℕ) (x : Node) → length (waiting m x) ≤ length (x .log)
 unfolding waiting due
-waiting-few x = length-keep (λ (r : Record). ltb (x .mark) (r .timestamp) && leb (r .timestamp) (least (x .summary))) (x .log)
+waiting-few m x = length-keep (λ (r : Record). ltb m (r .timestamp) && leb (r .timestamp) (least (x .summary))) (x .log)
 
 -- an accepted action never has more than 64 records due
 due-few : (t : List ℕ) (x : Action) → refusal t x ≡ 0 → length (dueOf t x) ≤ logMost
@@ -39,7 +39,7 @@ due-few t (Session a b ca cb o) h = omega arith
 due-few t (Purge p) h = omega arith
 due-few t (Deliver p) h =
     let m = may-deliver t p h in
-    omega (arith, m .isSound .room p (m .here), log-length t p, waiting-few (node t p))
+    omega (arith, m .isSound .room p (m .here), log-length t p, waiting-few (mark t p) (node t p))
 
 module _ (t : List ℕ) (k : ℕ) (x : Action) (room : 4 * logMost ≤ k) where
   -- 7 is never given, and what is given before it stays

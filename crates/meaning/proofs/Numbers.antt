@@ -1,17 +1,18 @@
 -- Refusals are from document 01's lists, and no step changes a word that belongs to no node below n.
 use mathlib.Core.Path.{_≡_, refl, ap, _∙_}
 use mathlib.Core.Bool.{true}
-use mathlib.Core.List.{List}
+use mathlib.Core.List.{List, _∷_}
 use Prim.Native.Nat.{ℕ, zero, suc, _<_}
+use native.Mathlib.Omega.{arith}
 use lib.ListN.{getD}
 use Rattle.meaning.specs.declared.Action.{Action}
 use Rattle.meaning.specs.declared.Action.the-variants.{Write, Session, Purge, Deliver}
-use Rattle.meaning.specs.Table.{Node, count, node, putNode, Sound, Shaped}
-use Rattle.meaning.specs.Node.{wrote, purged, delivered}
+use Rattle.meaning.specs.Table.{Node, count, mark, node, putNode, putMark, Sound, Shaped}
+use Rattle.meaning.specs.Node.{wrote, purged, raised}
 use Rattle.meaning.specs.Steps.{refusals, refusal, limit, acted, after}
 use Rattle.meaning.specs.Frames.{lineTests, lineRefusal}
-use Rattle.meaning.proofs.PieceLaws.{Apart}
-use Rattle.meaning.proofs.TableLaws.{regions, put-word-away}
+use Rattle.meaning.proofs.PieceLaws.{Apart, Apart·cons}
+use Rattle.meaning.proofs.TableLaws.{regions, markOf, put-word-away, mark-word-away}
 use Rattle.meaning.proofs.RefusalLaws.{listed, first-listed}
 use Rattle.meaning.proofs.StepLaws.{
   after-accepted,
@@ -22,7 +23,6 @@ use Rattle.meaning.proofs.StepLaws.{
   may-deliver,
   write-shaped,
   purge-shaped,
-  deliver-shaped,
   sideA,
   sideB,
   sideA-shaped,
@@ -40,13 +40,24 @@ refusal-listed t x = first-listed (refusals t x)
 
 -- A word that stands in no row, held number, log or mark of a node below n
 pub Outside : ℕ → ℕ → Type 0
-Outside n i = (p : ℕ) → p < n → Apart i 1 (regions n p)
+Outside n i = (p : ℕ) → p < n → Apart i 1 (markOf p ∷ regions n p)
 
 put-outside :
     (t : List ℕ) (s : Sound t) (p : ℕ) (h : p < count t) (x : Node) → Shaped (count t) x → (i : ℕ) → Outside (count t) i →
     getD (putNode p x t) i 0 ≡ getD t i 0
 unfolding Outside
-put-outside t s p h x fits i out = put-word-away t s p h x fits i (out p h)
+put-outside t s p h x fits i out = go (out p h)
+  where
+    go : Apart i 1 (markOf p ∷ regions (count t) p) → getD (putNode p x t) i 0 ≡ getD t i 0
+    go (Apart·cons marked apart) = put-word-away t s p h x fits i apart
+
+mark-outside :
+    (t : List ℕ) (s : Sound t) (p : ℕ) (h : p < count t) (m i : ℕ) → Outside (count t) i → getD (putMark p m t) i 0 ≡ getD t i 0
+unfolding Outside
+mark-outside t s p h m i out = go (out p h)
+  where
+    go : Apart i 1 (markOf p ∷ regions (count t) p) → getD (putMark p m t) i 0 ≡ getD t i 0
+    go (Apart·cons marked apart) = mark-word-away t s p h m i (λ u v. marked u (omega arith))
 
 acted-outside : (t : List ℕ) (x : Action) → refusal t x ≡ 0 → (i : ℕ) → Outside (count t) i → getD (acted t x) i 0 ≡ getD t i 0
 unfolding acted
@@ -64,7 +75,7 @@ acted-outside t (Purge p) k i out =
     put-outside t (m .isSound) p (m .here) (purged (limit t p) (node t p)) (purge-shaped t p m) i out
 acted-outside t (Deliver p) k i out =
     let m = may-deliver t p k in
-    put-outside t (m .isSound) p (m .here) (delivered (node t p)) (deliver-shaped t p m) i out
+    mark-outside t (m .isSound) p (m .here) (raised (mark t p) (node t p)) i out
 
 -- "Rows and entries at or beyond n take no part and are never changed by a step."
 pub after-outside : (t : List ℕ) (x : Action) (i : ℕ) → Outside (count t) i → getD (after t x) i 0 ≡ getD t i 0

@@ -18,7 +18,7 @@ use lib.Dec.{leb, ltb}
 use borrow.Author.Tests.{leb-true, leb-false, ltb-true, le-leb, lt-ltb}
 use Rattle.meaning.specs.declared.Record.{Record}
 use Rattle.meaning.specs.Rows.{keep, covers, due, inOrder}
-use Rattle.meaning.specs.Table.{node}
+use Rattle.meaning.specs.Table.{mark, node}
 use Rattle.meaning.specs.Account.{has, Event, run}
 use Rattle.meaning.specs.Order.{orderOf}
 use Rattle.meaning.proofs.RowLaws.{and-left, and-right, and-both}
@@ -28,14 +28,14 @@ use Rattle.meaning.proofs.OrderTable.{ordered-run}
 
 -- the records with a timestamp at most a mark
 abbrev pub upTo : ℕ → List Record → List Record
-upTo mark rs = keep (λ r. leb (r .timestamp) mark) rs
+upTo high rs = keep (λ r. leb (r .timestamp) high) rs
 
 module _ (n : ℕ) (least : 2 ≤ n) (most : n ≤ 16) (es : List Event) where
   abbrev written : List Record
   written = run n es .account .written
 
   abbrev markOf : ℕ → ℕ
-  markOf p = node (run n es .table) p .mark
+  markOf p = mark (run n es .table) p
 
   -- written records that a test keeps rise when in order
   rising-kept : (f : Record → Bool) → Rising (inOrder (keep f written))

@@ -8,8 +8,8 @@ use Rattle.meaning.specs.declared.Record.{Record}
 use Rattle.meaning.specs.declared.Action.{Action}
 use Rattle.meaning.specs.declared.Action.the-variants.{Write, Session, Purge, Deliver}
 use Rattle.meaning.specs.declared.Step.{Step}
-use Rattle.meaning.specs.Table.{Node, nodesMost, count, node}
-use Rattle.meaning.specs.Node.{own, wrote, purged, given, delivered}
+use Rattle.meaning.specs.Table.{Node, nodesMost, count, mark, node}
+use Rattle.meaning.specs.Node.{own, wrote, purged, given, raised}
 use Rattle.meaning.specs.Steps.{finishesA, finishesB, refusal, limit, acted}
 use Rattle.meaning.specs.Account.{has, Account, noted, Run, stepped, Event, AStep, befell, ran, begun, run}
 use Rattle.meaning.specs.Order.{told, toldIf, heard, hears, orderOf}
@@ -21,10 +21,15 @@ use Rattle.meaning.proofs.StepLaws.{
   may-deliver,
   write-shaped,
   purge-shaped,
-  deliver-shaped,
   session-a,
   session-b,
   session-other,
+  session-mark,
+  write-mark,
+  purge-mark,
+  deliver-node,
+  deliver-mark,
+  deliver-mark-other,
   fresh-mark,
 }
 use Rattle.meaning.proofs.AccountLaws.{not-both, entry}
@@ -35,15 +40,16 @@ use Rattle.meaning.proofs.OrderLaws.{Rising·nil}
 use Rattle.meaning.proofs.OrderNodes.{Told, told-more, mark-behind, told-wrote, told-ended, told-purged, told-delivered}
 
 -- every node's delivered list beside the table's nodes and the account
-abbrev pub AllTold : ℕ → (ℕ → Node) → Account → (ℕ → List Record) → Type 0
-AllTold n nodes x lists = (q : ℕ) → q < n → Told n (x .written) (nodes q) (x .of q) (lists q)
+abbrev pub AllTold : ℕ → List ℕ → Account → (ℕ → List Record) → Type 0
+AllTold n t x lists = (q : ℕ) → q < n → Told n (x .written) (mark t q) (node t q) (x .of q) (lists q)
 
 told-at :
-    (n : ℕ) (w : List Record) (x y : Node) (l m list order : List Record) → x ≡ y → l ≡ m → list ≡ order → Told n w y m order → Told n w x l list
-told-at n w x y l m list order e f g h = rw (e, f, g) h
+    (n : ℕ) (w : List Record) (i j : ℕ) (x y : Node) (l m list order : List Record) → i ≡ j → x ≡ y → l ≡ m → list ≡ order → Told n w j y m order →
+    Told n w i x l list
+told-at n w i j x y l m list order d e f g h = rw (d, e, f, g) h
 
 -- what a purge goes by is at most the mark: a purge that does not look at the mark is refused here
-limit-marked : (t : List ℕ) (p : ℕ) → limit t p ≤ node t p .mark
+limit-marked : (t : List ℕ) (p : ℕ) → limit t p ≤ mark t p
 unfolding limit
 limit-marked t p = omega arith
 
@@ -56,7 +62,7 @@ later-than p c y mark h j = omega arith
 
 told-acted :
     (t : List ℕ) (a : Action) (x : Account) (lists : ℕ → List Record) → refusal t a ≡ 0 → Whole (count t) (node t) x →
-    AllTold (count t) (node t) x lists → AllTold (count t) (node (acted t a)) (noted a x) (told t a lists)
+    AllTold (count t) t x lists → AllTold (count t) (acted t a) (noted a x) (told t a lists)
 unfolding acted noted told
 told-acted t (Write p c b v) x lists k w h =
     let m = may-write t p c b v k in
@@ -65,73 +71,81 @@ told-acted t (Write p c b v) x lists k w h =
     let y = wrote p c b v (node t p) in
     let fits = write-shaped t p c b v m in
     let same = node-same t s p (m .here) y fits in
-    let more : (q : ℕ) → q < count t → Told (count t) (x .written ++ (new ∷ [])) (node t q) (x .of q) (lists q) =
+    let more : (q : ℕ) → q < count t → Told (count t) (x .written ++ (new ∷ [])) (mark t q) (node t q) (x .of q) (lists q) =
     λ q j.
-    told-more (count t) (x .written) new (node t q) (x .of q) (lists q)
-    (later-than p c (node t p) (node t q .mark) (m .later) (mark-behind (count t) (node t) x w p q (m .here) j (x .of q) (lists q) (h q j)))
+    told-more (count t) (x .written) new (mark t q) (node t q) (x .of q) (lists q)
+    (later-than p c (node t p) (mark t q) (m .later) (mark-behind (count t) (node t) x w p q (mark t q) (m .here) j (x .of q) (lists q) (h q j)))
     (h q j)
     in
     let up : (o : ℕ) → entry (node t p .summary) o ≤ entry (y .summary) o =
     λ o. subst (λ (z : Node). entry (node t p .summary) o ≤ entry (z .summary) o) same (rises-acted t (Write p c b v) x k w p (m .here) .summary o)
     in
-    each (λ (q : ℕ). Told (count t) (x .written ++ (new ∷ [])) (node (acted t (Write p c b v)) q) (noted (Write p c b v) x .of q) (lists q)) (count t) p
-    (told-at (count t) _ (node (acted t (Write p c b v)) p) y _ (x .of p ++ (new ∷ [])) (lists p) (lists p) same (gains-here p (new ∷ []) (x .of)) refl
-    (told-wrote (count t) (node t) x w p c b v _ (lists p) up (more p (m .here))))
+    let after = acted t (Write p c b v) in
+    let stays = write-mark t p c b v m in
+    each (λ (q : ℕ). Told (count t) (x .written ++ (new ∷ [])) (mark after q) (node after q) (noted (Write p c b v) x .of q) (lists q)) (count t) p
+    (told-at (count t) _ (mark after p) (mark t p) (node after p) y _ (x .of p ++ (new ∷ [])) (lists p) (lists p) (stays p) same
+    (gains-here p (new ∷ []) (x .of)) refl
+    (told-wrote (count t) (node t) x w p c b v _ (mark t p) (lists p) up (more p (m .here))))
     (λ q j ne.
-    told-at (count t) _ (node (acted t (Write p c b v)) q) (node t q) _ (x .of q) (lists q) (lists q) (node-other t s p (m .here) y fits q j ne)
+    told-at (count t) _ (mark after q) (mark t q) (node after q) (node t q) _ (x .of q) (lists q) (lists q) (stays q)
+    (node-other t s p (m .here) y fits q j ne)
     (gains-other p (new ∷ []) (x .of) q ne) refl (more q j))
 told-acted t (Session a b ca cb o) x lists k w h =
     let m = may-meet t a b ca cb o k in
     let f = finishesA o in
     let g = finishesB o in
-    let after = node (acted t (Session a b ca cb o)) in
+    let after = acted t (Session a b ca cb o) in
+    let stays = session-mark t a b ca cb o m in
     let atA = session-a t a b ca cb o m in
     let atB = session-b t a b ca cb o m in
-    let up : (q : ℕ) → q < count t → (z : Node) → after q ≡ z → (i : ℕ) → entry (node t q .summary) i ≤ entry (z .summary) i =
+    let up : (q : ℕ) → q < count t → (z : Node) → node after q ≡ z → (i : ℕ) → entry (node t q .summary) i ≤ entry (z .summary) i =
     λ q j z e i. subst (λ (y : Node). entry (node t q .summary) i ≤ entry (y .summary) i) e (rises-acted t (Session a b ca cb o) x k w q j .summary i)
     in
-    each (λ (q : ℕ). Told (count t) (x .written) (after q) (noted (Session a b ca cb o) x .of q) (lists q)) (count t) a
-    (told-at (count t) _ (after a) _ _ _ (lists a) (lists a) atA (taken-a f g a b (x .of) (m .apart)) refl
-    (told-ended (count t) (node t) x w f a b ca cb (m .hereA) (m .hereB) (lists a) (up a (m .hereA) _ atA) (h a (m .hereA))))
+    each (λ (q : ℕ). Told (count t) (x .written) (mark after q) (node after q) (noted (Session a b ca cb o) x .of q) (lists q)) (count t) a
+    (told-at (count t) _ (mark after a) (mark t a) (node after a) _ _ _ (lists a) (lists a) (stays a) atA (taken-a f g a b (x .of) (m .apart)) refl
+    (told-ended (count t) (node t) x w f a b ca cb (mark t a) (m .hereA) (m .hereB) (lists a) (up a (m .hereA) _ atA) (h a (m .hereA))))
     (λ i j ne.
-    each (λ (q : ℕ). (q ≡ a → ⊥) → Told (count t) (x .written) (after q) (noted (Session a b ca cb o) x .of q) (lists q)) (count t) b
+    each (λ (q : ℕ). (q ≡ a → ⊥) → Told (count t) (x .written) (mark after q) (node after q) (noted (Session a b ca cb o) x .of q) (lists q)) (count t) b
     (λ na.
-    told-at (count t) _ (after b) _ _ _ (lists b) (lists b) atB (taken-b f g a b (x .of) na) refl
-    (told-ended (count t) (node t) x w g b a cb ca (m .hereB) (m .hereA) (lists b) (up b (m .hereB) _ atB) (h b (m .hereB))))
+    told-at (count t) _ (mark after b) (mark t b) (node after b) _ _ _ (lists b) (lists b) (stays b) atB (taken-b f g a b (x .of) na) refl
+    (told-ended (count t) (node t) x w g b a cb ca (mark t b) (m .hereB) (m .hereA) (lists b) (up b (m .hereB) _ atB) (h b (m .hereB))))
     (λ q l nb na.
-    told-at (count t) _ (after q) (node t q) _ (x .of q) (lists q) (lists q) (session-other t a b ca cb o m q l na nb) (taken-other f g a b (x .of) q na nb)
-    refl (h q l))
+    told-at (count t) _ (mark after q) (mark t q) (node after q) (node t q) _ (x .of q) (lists q) (lists q) (stays q)
+    (session-other t a b ca cb o m q l na nb) (taken-other f g a b (x .of) q na nb) refl (h q l))
     i j ne)
 told-acted t (Purge p) x lists k w h =
     let m = may-purge t p k in
     let s = m .isSound in
     let y = purged (limit t p) (node t p) in
     let fits = purge-shaped t p m in
-    each (λ (q : ℕ). Told (count t) (x .written) (node (acted t (Purge p)) q) (x .of q) (lists q)) (count t) p
-    (told-at (count t) _ (node (acted t (Purge p)) p) y (x .of p) (x .of p) (lists p) (lists p) (node-same t s p (m .here) y fits) refl refl
-    (told-purged (count t) (node t) x w p (limit t p) (lists p) (limit-marked t p) (h p (m .here))))
+    let after = acted t (Purge p) in
+    let stays = purge-mark t p m in
+    each (λ (q : ℕ). Told (count t) (x .written) (mark after q) (node after q) (x .of q) (lists q)) (count t) p
+    (told-at (count t) _ (mark after p) (mark t p) (node after p) y (x .of p) (x .of p) (lists p) (lists p) (stays p) (node-same t s p (m .here) y fits) refl
+    refl
+    (told-purged (count t) (node t) x w p (limit t p) (mark t p) (lists p) (limit-marked t p) (h p (m .here))))
     (λ q j ne.
-    told-at (count t) _ (node (acted t (Purge p)) q) (node t q) (x .of q) (x .of q) (lists q) (lists q) (node-other t s p (m .here) y fits q j ne) refl refl
-    (h q j))
+    told-at (count t) _ (mark after q) (mark t q) (node after q) (node t q) (x .of q) (x .of q) (lists q) (lists q) (stays q)
+    (node-other t s p (m .here) y fits q j ne) refl refl (h q j))
 told-acted t (Deliver p) x lists k w h =
     let m = may-deliver t p k in
-    let s = m .isSound in
-    let y = delivered (node t p) in
-    let fits = deliver-shaped t p m in
-    let after = node (acted t (Deliver p)) in
-    each (λ (q : ℕ). Told (count t) (x .written) (after q) (x .of q) (told t (Deliver p) lists q)) (count t) p
-    (told-at (count t) _ (after p) y (x .of p) (x .of p) _ (lists p ++ given (node t p)) (node-same t s p (m .here) y fits) refl
-    (gains-here p (given (node t p)) lists)
-    (told-delivered (count t) (node t) x w p (m .here) (lists p) (h p (m .here))))
+    let new = given (mark t p) (node t p) in
+    let after = acted t (Deliver p) in
+    each (λ (q : ℕ). Told (count t) (x .written) (mark after q) (node after q) (x .of q) (told t (Deliver p) lists q)) (count t) p
+    (told-at (count t) _ (mark after p) (raised (mark t p) (node t p)) (node after p) (node t p) (x .of p) (x .of p) _ (lists p ++ new)
+    (deliver-mark t p m) (deliver-node t p m p (m .here)) refl
+    (gains-here p new lists)
+    (told-delivered (count t) (node t) x w p (mark t p) (m .here) (lists p) (h p (m .here))))
     (λ q j ne.
-    told-at (count t) _ (after q) (node t q) (x .of q) (x .of q) _ (lists q) (node-other t s p (m .here) y fits q j ne) refl
-    (gains-other p (given (node t p)) lists q ne) (h q j))
+    told-at (count t) _ (mark after q) (mark t q) (node after q) (node t q) (x .of q) (x .of q) _ (lists q)
+    (deliver-mark-other t p m q ne) (deliver-node t p m q j) refl
+    (gains-other p new lists q ne) (h q j))
 
 -- A run with the lists beside it -----------------------------------------------------------------------------------------------------------------
 
 pub record Ordered (n : ℕ) (x : Run) (lists : ℕ → List Record) : Type 0 where
   pub sure : Sure n x
-  pub tells : AllTold n (node (x .table)) (x .account) lists
+  pub tells : AllTold n (x .table) (x .account) lists
 
 ordered-fresh : (n : ℕ) → 2 ≤ n → n ≤ nodesMost → Ordered n (begun n) (λ p. [])
 unfolding has
@@ -149,22 +163,22 @@ ordered-fresh n lo hi =
 
 tells-acted :
     (n : ℕ) (x : Run) (a : Action) (lists : ℕ → List Record) → refusal (x .table) a ≡ 0 → Ordered n x lists →
-    AllTold n (node (acted (x .table) a)) (noted a (x .account)) (told (x .table) a lists)
+    AllTold n (acted (x .table) a) (noted a (x .account)) (told (x .table) a lists)
 tells-acted n x a lists k u =
     let c = u .sure .counted in
-    subst (λ (m : ℕ). AllTold m (node (acted (x .table) a)) (noted a (x .account)) (told (x .table) a lists)) c
+    subst (λ (m : ℕ). AllTold m (acted (x .table) a) (noted a (x .account)) (told (x .table) a lists)) c
     (told-acted (x .table) a (x .account) lists k
     (subst (λ (m : ℕ). Whole m (node (x .table)) (x .account)) (sym c) (u .sure .whole))
-    (subst (λ (m : ℕ). AllTold m (node (x .table)) (x .account) lists) (sym c) (u .tells)))
+    (subst (λ (m : ℕ). AllTold m (x .table) (x .account) lists) (sym c) (u .tells)))
 
 tells-stepped :
     (n : ℕ) (x : Run) (s : Step) (lists : ℕ → List Record) (k : ℕ) → refusal (x .table) (s .action) ≡ k → Ordered n x lists →
-    AllTold n (node (stepped x s .table)) (stepped x s .account) (toldIf k (x .table) (s .action) lists)
+    AllTold n (stepped x s .table) (stepped x s .account) (toldIf k (x .table) (s .action) lists)
 tells-stepped n x s lists zero h u =
-    subst (λ (y : Run). AllTold n (node (y .table)) (y .account) (told (x .table) (s .action) lists)) (sym (stepped-accepted x s h))
+    subst (λ (y : Run). AllTold n (y .table) (y .account) (told (x .table) (s .action) lists)) (sym (stepped-accepted x s h))
     (tells-acted n x (s .action) lists h u)
 tells-stepped n x s lists (suc k) h u =
-    subst (λ (y : Run). AllTold n (node (y .table)) (y .account) lists) (sym (stepped-refused x s k h)) (u .tells)
+    subst (λ (y : Run). AllTold n (y .table) (y .account) lists) (sym (stepped-refused x s k h)) (u .tells)
 
 ordered-befell : (n : ℕ) (x : Run) (e : Event) (lists : ℕ → List Record) → Ordered n x lists → Ordered n (befell x e) (heard x e lists)
 unfolding befell heard

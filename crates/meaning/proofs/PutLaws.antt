@@ -1,14 +1,14 @@
 -- Laws of putting a node piece by piece: what a few words written one after the other come to as a node put.
 use mathlib.Core.Path.{_≡_, refl, sym, ap, ap₂, _∙_}
 use mathlib.Core.List.{List, [], _∷_, _++_, append-nil, append-assoc}
-use Prim.Native.Nat.{ℕ, zero, suc, _+_, _-_, _*_, _≤_, _<_, max}
+use Prim.Native.Nat.{ℕ, zero, suc, _+_, _-_, _*_, _≤_, _<_}
 use native.Mathlib.Nat.{add-zero}
 use native.Mathlib.Numerals.{towards-suc}
 use native.Mathlib.Omega.{arith}
 use lib.ListN.{length, getD, set, take, drop, replicate, length-take, length-append, length-replicate}
 use lib.Seq.{take-suc, take-take, drop-cons}
 use Rattle.meaning.specs.declared.Record.{Record}
-use Rattle.meaning.specs.Rows.{least, recordAt, records, words, above}
+use Rattle.meaning.specs.Rows.{recordAt, records, words, above}
 use Rattle.meaning.specs.Table.{
   Node,
   tableWords,
@@ -29,10 +29,11 @@ use Rattle.meaning.specs.Table.{
   logWords,
   pieces,
   putNode,
+  putMark,
   Sound,
 }
-use Rattle.meaning.specs.Node.{wrote, purged, delivered}
-use Rattle.meaning.proofs.PlaceLaws.{getD-away, length-place, length-part, part-away, place-part, place-append, place-none, place-inner, set-place}
+use Rattle.meaning.specs.Node.{wrote, purged}
+use Rattle.meaning.proofs.PlaceLaws.{length-place, length-part, part-away, place-part, place-append, place-none, place-inner, set-place}
 use Rattle.meaning.proofs.RowLaws.{length-words, length-above, words-append, words-none}
 use Rattle.meaning.proofs.TableLaws.{log-length}
 
@@ -76,10 +77,6 @@ summary-same t p v e = e
 held-word : (t : List ℕ) (p : ℕ) → getD t (heldAt p) 0 ≡ held t p
 unfolding held
 held-word t p = refl
-
-mark-word : (t : List ℕ) (p : ℕ) → getD t (markAt p) 0 ≡ node t p .mark
-unfolding node mark
-mark-word t p = refl
 
 -- Pieces of a node of a sound table, put into a list u that agrees with t there
 module _ (t : List ℕ) (s : Sound t) (p : ℕ) (h : p < count t) where
@@ -134,8 +131,9 @@ module _ (t : List ℕ) (s : Sound t) (p : ℕ) (h : p < count t) where
   pub put-held-same : (u : List ℕ) (k : ℕ) → length u ≡ tableWords → getD u (heldAt p) 0 ≡ k → place (heldAt p) (k ∷ []) u ≡ u
   put-held-same u k lu e = let g = high in put-word-same (heldAt p) u k lu (omega arith) e
 
-  put-mark-same : (k : ℕ) → k ≡ node t p .mark → place (markAt p) (k ∷ []) t ≡ t
-  put-mark-same k e = let g = high in put-word-same (markAt p) t k long (omega arith) (mark-word t p ∙ sym e)
+  pub put-mark-same : (k : ℕ) → k ≡ mark t p → putMark p k t ≡ t
+  unfolding putMark mark
+  put-mark-same k e = let g = high in put-word-same (markAt p) t k long (omega arith) (sym e)
 
   -- a row as it is, and a row with one entry changed
   pub put-row-same :
@@ -188,19 +186,13 @@ module _ (t : List ℕ) (s : Sound t) (p : ℕ) (h : p < count t) where
         part-away at k (logAt p + 4 * held t p) (words rs) t fit₁ (omega arith) (λ a b. omega arith)
 
     -- a node whose log has grown by these records, put piece by piece
-    pub put-grown :
-        (x : Node) → x .log ≡ node t p .log ++ rs → x .mark ≡ node t p .mark →
-        putNode p x t ≡ place (summaryAt p) (x .summary) (place (acksAt p) (x .acks) (grown rs))
+    pub put-grown : (x : Node) → x .log ≡ node t p .log ++ rs → putNode p x t ≡ place (summaryAt p) (x .summary) (place (acksAt p) (x .acks) (grown rs))
     unfolding putNode pieces lay
-    put-grown x e same =
+    put-grown x e =
         let ll = log-length t p in
         let la = length-append (node t p .log) rs in
         let lx = ap length e in
         let k : length (x .log) ≡ held t p + length rs = omega arith in
-        ap
-        (λ (u : List ℕ).
-        place (summaryAt p) (x .summary) (place (acksAt p) (x .acks) (place (heldAt p) (length (x .log) ∷ []) (place (logAt p) (logWords p x t) u))))
-        (put-mark-same (x .mark) same) ∙
         ap₂ (λ (m : ℕ) (u : List ℕ). place (summaryAt p) (x .summary) (place (acksAt p) (x .acks) (place (heldAt p) (m ∷ []) u))) k (put-log-more x rs e fits)
 
   -- nothing appended
@@ -224,7 +216,7 @@ module _ (t : List ℕ) (s : Sound t) (p : ℕ) (h : p < count t) where
       let u : List ℕ = grown (r ∷ []) in
       let lu = grown-long (r ∷ []) (omega arith) in
       sym
-      (put-grown (r ∷ []) (omega arith) (wrote p c b v (node t p)) refl refl ∙
+      (put-grown (r ∷ []) (omega arith) (wrote p c b v (node t p)) refl ∙
       ap (place (summaryAt p) (set (part (summaryAt p) (count t) t) p c))
       (put-row-same (acksAt p) u lu (omega arith) (grown-part (r ∷ []) (omega arith) (acksAt p) (count t) (omega arith))) ∙
       put-row-set (summaryAt p) p (summaryAt p + p) c u refl h lu (omega arith) (grown-part (r ∷ []) (omega arith) (summaryAt p) (count t) (omega arith)))
@@ -262,12 +254,6 @@ module _ (t : List ℕ) (s : Sound t) (p : ℕ) (h : p < count t) where
       ap (place (heldAt p) (k ∷ [])) (place-append (logAt p) (logAt p + 4 * k) (words rs) z t (omega arith) (omega arith)) ∙
       sym
       (ap
-      (λ (w : List ℕ).
-      place (summaryAt p) (x .summary)
-      (place (acksAt p) (x .acks)
-      (place (heldAt p) (length rs ∷ []) (place (logAt p) (words rs ++ replicate (4 * (held t p - length rs)) 0) w))))
-      (put-mark-same (node t p .mark) refl) ∙
-      ap
       (λ (m : ℕ).
       place (summaryAt p) (x .summary)
       (place (acksAt p) (x .acks) (place (heldAt p) (m ∷ []) (place (logAt p) (words rs ++ replicate (4 * (held t p - m)) 0) t))))
@@ -284,53 +270,12 @@ module _ (t : List ℕ) (s : Sound t) (p : ℕ) (h : p < count t) where
       row-summary v lv e = let g = high in summary-same t p v (put-row-same (summaryAt p) v lv (omega arith) e)
 
   -- Both rows put, the log as it was
-  pub settle-put :
-      (x : Node) → x .log ≡ node t p .log → x .mark ≡ node t p .mark → place (summaryAt p) (x .summary) (place (acksAt p) (x .acks) t) ≡ putNode p x t
-  settle-put x e same =
+  pub settle-put : (x : Node) → x .log ≡ node t p .log → place (summaryAt p) (x .summary) (place (acksAt p) (x .acks) t) ≡ putNode p x t
+  settle-put x e =
       let r = room in
       sym
-      (put-grown [] (omega arith) x (e ∙ sym (append-nil (node t p .log))) same ∙
+      (put-grown [] (omega arith) x (e ∙ sym (append-nil (node t p .log))) ∙
       ap (λ (u : List ℕ). place (summaryAt p) (x .summary) (place (acksAt p) (x .acks) u)) grown-none)
-
-  -- Deliver: the mark
-  pub deliver-put : (m : ℕ) → m ≡ max (node t p .mark) (least (node t p .summary)) → place (markAt p) (m ∷ []) t ≡ putNode p (delivered (node t p)) t
-  unfolding putNode pieces lay delivered
-  deliver-put m e =
-      let l = long in
-      let g = high in
-      let r = room in
-      let x : Node = delivered (node t p) in
-      let u : List ℕ = place (markAt p) (m ∷ []) t in
-      let fu : markAt p + 1 ≤ length t = omega arith in
-      let lu : length u ≡ tableWords = length-place (markAt p) (m ∷ []) t fu ∙ l in
-      let away : (at k : ℕ) → at + k ≤ markAt 0 → part at k u ≡ part at k t =
-      λ at k inside. part-away at k (markAt p) (m ∷ []) t fu (omega arith) (λ a b. omega arith)
-      in
-      let ll = log-length t p in
-      let z : 4 * (held t p - length (node t p .log)) ≡ 0 = omega arith in
-      let w : logWords p x t ≡ part (logAt p) (4 * held t p) u =
-      ap (λ (k : ℕ). words (node t p .log) ++ replicate k 0) z ∙
-      append-nil (words (node t p .log)) ∙
-      log-words ∙
-      sym (away (logAt p) (4 * held t p) (omega arith))
-      in
-      let log-same : place (logAt p) (logWords p x t) u ≡ u =
-      ap (λ (y : List ℕ). place (logAt p) y u) w ∙ place-part (logAt p) (4 * held t p) u (omega arith)
-      in
-      let held-same : place (heldAt p) (length (node t p .log) ∷ []) u ≡ u =
-      put-held-same u (length (node t p .log)) lu
-      (getD-away (heldAt p) (markAt p) (m ∷ []) t fu (λ a b. omega arith) ∙ held-word t p ∙ sym ll)
-      in
-      sym
-      (ap
-      (λ (k : ℕ).
-      place (summaryAt p) (x .summary)
-      (place (acksAt p) (x .acks) (place (heldAt p) (length (x .log) ∷ []) (place (logAt p) (logWords p x t) (place (markAt p) (k ∷ []) t)))))
-      (sym e) ∙
-      ap (λ (v : List ℕ). place (summaryAt p) (x .summary) (place (acksAt p) (x .acks) (place (heldAt p) (length (x .log) ∷ []) v))) log-same ∙
-      ap (λ (v : List ℕ). place (summaryAt p) (x .summary) (place (acksAt p) (x .acks) v)) held-same ∙
-      ap (place (summaryAt p) (x .summary)) (acks-same t p u (put-row-same (acksAt p) u lu (omega arith) (away (acksAt p) (count t) (omega arith)))) ∙
-      summary-same t p u (put-row-same (summaryAt p) u lu (omega arith) (away (summaryAt p) (count t) (omega arith))))
 
 -- a beginning as long as asked for says how long the list is at least
 pub long-enough : (n : ℕ) (xs : List ℕ) → length (take n xs) ≡ n → n ≤ length xs

@@ -36,11 +36,26 @@ use Rattle.meaning.specs.Table.{
   Sound,
   Shaped,
 }
-use Rattle.meaning.specs.Node.{own, wrote, opened, sent, finished, ended, purged, delivered}
+use Rattle.meaning.specs.Node.{own, wrote, opened, sent, finished, ended, purged, raised}
 use Rattle.meaning.specs.Steps.{finishesA, finishesB, overfull, refusals, refusal, limit, acted, reported, reply, after}
 use Rattle.meaning.proofs.RowLaws.{all-append, all-keep, length-above, and-both, length-raise, length-records, records-take}
 use Rattle.meaning.proofs.RefusalLaws.{numbered, testOf, first-at}
-use Rattle.meaning.proofs.TableLaws.{sound-facts, facts-sound, sound-put, node-shaped, node-same, node-other, put-count, held-log}
+use Rattle.meaning.proofs.TableLaws.{
+  sound-facts,
+  facts-sound,
+  sound-put,
+  node-shaped,
+  node-same,
+  node-other,
+  put-count,
+  mark-put,
+  held-log,
+  mark-count,
+  mark-same,
+  mark-other,
+  node-mark,
+  sound-mark,
+}
 
 pub or-left : (a b : Bool) → (a || b) ≡ false → a ≡ false
 or-left true b h = h
@@ -164,10 +179,6 @@ module _ (n : ℕ) (x : Node) (fits : Shaped n x) where
       let s = fits .logShort in
       record { summaryLong = fits .summaryLong; acksLong = fits .acksLong; logShort = omega arith }
 
-  pub delivered-shaped : Shaped n (delivered x)
-  unfolding delivered
-  delivered-shaped = record { summaryLong = fits .summaryLong; acksLong = fits .acksLong; logShort = fits .logShort }
-
   pub ended-shaped : (y : Node) → Shaped n y → (f : Bool) → overfull f x y ≡ false → Shaped n (ended f x y)
   unfolding finished
   ended-shaped y fits′ true h =
@@ -195,10 +206,6 @@ wrote-right n x p c b v hp hv h =
 pub purged-right : (n limit : ℕ) (x : Node) → all (recordSound n) (x .log) ≡ true → all (recordSound n) (purged limit x .log) ≡ true
 unfolding purged above
 purged-right n limit x h = all-keep (recordSound n) (λ (r : Record). not (leb (r .timestamp) limit)) (x .log) h
-
-pub delivered-right : (n : ℕ) (x : Node) → all (recordSound n) (x .log) ≡ true → all (recordSound n) (delivered x .log) ≡ true
-unfolding delivered
-delivered-right n x h = h
 
 pub ended-right :
     (n : ℕ) (x y : Node) (f : Bool) → all (recordSound n) (x .log) ≡ true → all (recordSound n) (y .log) ≡ true → all (recordSound n) (ended f x y .log) ≡ true
@@ -283,18 +290,42 @@ module _ (t : List ℕ) (a b ca cb o : ℕ) (m : MayMeet t a b ca cb o) where
   pub session-a : node (acted t (Session a b ca cb o)) a ≡ sideA t a b ca cb o
   session-a = away a (m .hereA) (m .apart) ∙ node-same t s a (m .hereA) (sideA t a b ca cb o) sideA-shaped
 
+  pub session-mark : (q : ℕ) → mark (acted t (Session a b ca cb o)) q ≡ mark t q
+  unfolding acted
+  session-mark q =
+      mark-put halfway halfway-sound b halfway-here (sideB t a b ca cb o) halfway-shaped q ∙
+      mark-put t s a (m .hereA) (sideA t a b ca cb o) sideA-shaped q
+
   pub session-other : (q : ℕ) → q < count t → (q ≡ a → ⊥) → (q ≡ b → ⊥) → node (acted t (Session a b ca cb o)) q ≡ node t q
   session-other q h na nb = away q h nb ∙ node-other t s a (m .hereA) (sideA t a b ca cb o) sideA-shaped q h na
 
--- what a write, a purge and a delivery leave fits the table
+-- what a write and a purge leave fits the table
 pub write-shaped : (t : List ℕ) (p c b v : ℕ) → MayWrite t p c → Shaped (count t) (wrote p c b v (node t p))
 write-shaped t p c b v m = wrote-shaped (count t) (node t p) (node-shaped t (m .isSound) p (m .here)) p c b v (m .room)
 
 pub purge-shaped : (t : List ℕ) (p : ℕ) → MayPurge t p → Shaped (count t) (purged (limit t p) (node t p))
 purge-shaped t p m = purged-shaped (count t) (node t p) (node-shaped t (m .isSound) p (m .here)) (limit t p)
 
-pub deliver-shaped : (t : List ℕ) (p : ℕ) → MayDeliver t p → Shaped (count t) (delivered (node t p))
-deliver-shaped t p m = delivered-shaped (count t) (node t p) (node-shaped t (m .isSound) p (m .here))
+-- a write, a session and a purge leave every mark; a delivery leaves every node and every other mark
+pub write-mark : (t : List ℕ) (p c b v : ℕ) → MayWrite t p c → (q : ℕ) → mark (acted t (Write p c b v)) q ≡ mark t q
+unfolding acted
+write-mark t p c b v m q = mark-put t (m .isSound) p (m .here) (wrote p c b v (node t p)) (write-shaped t p c b v m) q
+
+pub purge-mark : (t : List ℕ) (p : ℕ) → MayPurge t p → (q : ℕ) → mark (acted t (Purge p)) q ≡ mark t q
+unfolding acted
+purge-mark t p m q = mark-put t (m .isSound) p (m .here) (purged (limit t p) (node t p)) (purge-shaped t p m) q
+
+pub deliver-node : (t : List ℕ) (p : ℕ) → MayDeliver t p → (q : ℕ) → q < count t → node (acted t (Deliver p)) q ≡ node t q
+unfolding acted
+deliver-node t p m q h = node-mark t (m .isSound) p (m .here) (raised (mark t p) (node t p)) q h
+
+pub deliver-mark : (t : List ℕ) (p : ℕ) → MayDeliver t p → mark (acted t (Deliver p)) p ≡ raised (mark t p) (node t p)
+unfolding acted
+deliver-mark t p m = mark-same t (m .isSound) p (m .here) (raised (mark t p) (node t p))
+
+pub deliver-mark-other : (t : List ℕ) (p : ℕ) → MayDeliver t p → (q : ℕ) → (q ≡ p → ⊥) → mark (acted t (Deliver p)) q ≡ mark t q
+unfolding acted
+deliver-mark-other t p m q other = mark-other t (m .isSound) p (m .here) (raised (mark t p) (node t p)) q other
 
 -- a sound table stays sound, with its count, under every accepted action
 pub acted-sound : (t : List ℕ) (x : Action) → verdictOf x ≤ 255 → refusal t x ≡ 0 → Sound (acted t x)
@@ -311,8 +342,7 @@ acted-sound t (Purge p) hv k =
     sound-put t s p (m .here) (purged (limit t p) (node t p)) (purge-shaped t p m) (purged-right (count t) (limit t p) (node t p) (s .right p (m .here)))
 acted-sound t (Deliver p) hv k =
     let m = may-deliver t p k in
-    let s = m .isSound in
-    sound-put t s p (m .here) (delivered (node t p)) (deliver-shaped t p m) (delivered-right (count t) (node t p) (s .right p (m .here)))
+    sound-mark t (m .isSound) p (m .here) (raised (mark t p) (node t p))
 
 pub acted-count : (t : List ℕ) (x : Action) → refusal t x ≡ 0 → count (acted t x) ≡ count t
 unfolding acted
@@ -325,7 +355,7 @@ acted-count t (Purge p) k =
     put-count t (m .isSound) p (m .here) (purged (limit t p) (node t p)) (purge-shaped t p m)
 acted-count t (Deliver p) k =
     let m = may-deliver t p k in
-    put-count t (m .isSound) p (m .here) (delivered (node t p)) (deliver-shaped t p m)
+    mark-count t (m .isSound) p (m .here) (raised (mark t p) (node t p))
 
 -- and under every step at all
 after-sound-at : (t : List ℕ) (x : Action) → verdictOf x ≤ 255 → Sound t → (k : ℕ) → refusal t x ≡ k → Sound (after t x)
@@ -365,8 +395,8 @@ pub fresh-log : (n p : ℕ) → p < nodesMost → node (fresh n) p .log ≡ []
 unfolding node records
 fresh-log n p h = rw (fresh-held n p h)
 
-pub fresh-mark : (n p : ℕ) → p < nodesMost → node (fresh n) p .mark ≡ 0
-unfolding node mark
+pub fresh-mark : (n p : ℕ) → p < nodesMost → mark (fresh n) p ≡ 0
+unfolding mark
 fresh-mark n p h = fresh-word n (markAt p) (omega arith) (omega arith)
 
 pub fresh-sound : (n : ℕ) → 2 ≤ n → n ≤ nodesMost → Sound (fresh n)

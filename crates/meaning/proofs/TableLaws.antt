@@ -1,4 +1,4 @@
--- Laws of a table and its nodes: a node that was put is read again, another is as it was, and soundness is kept.
+-- Laws of a table, its nodes and its marks: a node or a mark that was put is read again, every other is as it was, and soundness is kept.
 use mathlib.Core.Path.{_≡_, refl, sym, ap, _∙_}
 use mathlib.Core.Bool.{Bool, true, false, not, _&&_, cond}
 use mathlib.Core.List.{List, [], _∷_, _++_, List·Memᴰ, List·Memᴰ·head, List·Memᴰ·tail}
@@ -32,6 +32,7 @@ use Rattle.meaning.specs.Table.{
   logWords,
   pieces,
   putNode,
+  putMark,
   countRight,
   freshRefusal,
   recordSound,
@@ -40,7 +41,7 @@ use Rattle.meaning.specs.Table.{
   Sound,
   Shaped,
 }
-use Rattle.meaning.proofs.PlaceLaws.{getD-part, length-part}
+use Rattle.meaning.proofs.PlaceLaws.{getD-part, getD-within, getD-away, length-part, length-place, part-away}
 use Rattle.meaning.proofs.PieceLaws.{
   Region,
   region,
@@ -175,41 +176,36 @@ heldOf p = region (heldAt p) 1
 abbrev logOf : ℕ → Region
 logOf p = region (logAt p) (4 * logMost)
 
-abbrev markOf : ℕ → Region
+abbrev pub regions : ℕ → ℕ → List Region
+regions n p = summaryOf n p ∷ acksOf n p ∷ heldOf p ∷ logOf p ∷ []
+
+-- and where its mark does
+abbrev pub markOf : ℕ → Region
 markOf p = region (markAt p) 1
 
-abbrev pub regions : ℕ → ℕ → List Region
-regions n p = summaryOf n p ∷ acksOf n p ∷ heldOf p ∷ logOf p ∷ markOf p ∷ []
-
--- each of them is away from what is away from all five
+-- each of them is away from what is away from all four
 pub apart-node :
     (n p a k : ℕ) →
     (a < summaryAt p + n → summaryAt p < a + k → ⊥) →
     (a < acksAt p + n → acksAt p < a + k → ⊥) →
     (a < heldAt p + 1 → heldAt p < a + k → ⊥) →
     (a < logAt p + 4 * logMost → logAt p < a + k → ⊥) →
-    (a < markAt p + 1 → markAt p < a + k → ⊥) →
     Apart a k (regions n p)
-apart-node n p a k h₁ h₂ h₃ h₄ h₅ = Apart·cons h₁ (Apart·cons h₂ (Apart·cons h₃ (Apart·cons h₄ (Apart·cons h₅ Apart·nil))))
+apart-node n p a k h₁ h₂ h₃ h₄ = Apart·cons h₁ (Apart·cons h₂ (Apart·cons h₃ (Apart·cons h₄ Apart·nil)))
 
 inside-node : (n p m : ℕ) → n ≤ nodesMost → p < nodesMost → m ≡ tableWords → Inside m (regions n p)
 inside-node n p m hn hp e =
     Inside·cons {r = summaryOf n p} (omega arith)
     (Inside·cons {r = acksOf n p} (omega arith)
-    (Inside·cons {r = heldOf p} (omega arith)
-    (Inside·cons {r = logOf p} (omega arith) (Inside·cons {r = markOf p} (omega arith) Inside·nil))))
+    (Inside·cons {r = heldOf p} (omega arith) (Inside·cons {r = logOf p} (omega arith) Inside·nil)))
 
 disjoint-node : (n p : ℕ) → n ≤ nodesMost → p < nodesMost → Disjoint (regions n p)
 disjoint-node n p hn hp =
-    let from-mark : (a k : ℕ) → (a < markAt p + 1 → markAt p < a + k → ⊥) → Apart a k (markOf p ∷ []) = λ a k h. Apart·cons {r = markOf p} h Apart·nil in
     Disjoint·cons {r = summaryOf n p}
-    (Apart·cons {r = acksOf n p} (omega arith)
-    (Apart·cons {r = heldOf p} (omega arith) (Apart·cons {r = logOf p} (omega arith) (from-mark (summaryAt p) n (omega arith)))))
-    (Disjoint·cons {r = acksOf n p}
-    (Apart·cons {r = heldOf p} (omega arith) (Apart·cons {r = logOf p} (omega arith) (from-mark (acksAt p) n (omega arith))))
-    (Disjoint·cons {r = heldOf p} (Apart·cons {r = logOf p} (omega arith) (from-mark (heldAt p) 1 (omega arith)))
-    (Disjoint·cons {r = logOf p} (from-mark (logAt p) (4 * logMost) (omega arith))
-    (Disjoint·cons {r = markOf p} Apart·nil Disjoint·nil))))
+    (Apart·cons {r = acksOf n p} (omega arith) (Apart·cons {r = heldOf p} (omega arith) (Apart·cons {r = logOf p} (omega arith) Apart·nil)))
+    (Disjoint·cons {r = acksOf n p} (Apart·cons {r = heldOf p} (omega arith) (Apart·cons {r = logOf p} (omega arith) Apart·nil))
+    (Disjoint·cons {r = heldOf p} (Apart·cons {r = logOf p} (omega arith) Apart·nil)
+    (Disjoint·cons {r = logOf p} Apart·nil Disjoint·nil)))
 
 -- A node put into a sound table, one that fits it
 module _ (t : List ℕ) (s : Sound t) (p : ℕ) (h : p < count t) (x : Node) (fits : Shaped (count t) x) where
@@ -222,8 +218,7 @@ module _ (t : List ℕ) (s : Sound t) (p : ℕ) (h : p < count t) (x : Node) (fi
       Fills·cons {x = piece (summaryAt p) (x .summary)} {r = summaryOf (count t) p} refl (omega (arith, fits .summaryLong))
       (Fills·cons {x = piece (acksAt p) (x .acks)} {r = acksOf (count t) p} refl (omega (arith, fits .acksLong))
       (Fills·cons {x = piece (heldAt p) (length (x .log) ∷ [])} {r = heldOf p} refl (omega arith)
-      (Fills·cons {x = piece (logAt p) (logWords p x t)} {r = logOf p} refl (length-logWords p x t (fits .logShort) (s .room p h))
-      (Fills·cons {x = piece (markAt p) (x .mark ∷ [])} {r = markOf p} refl (omega arith) Fills·nil))))
+      (Fills·cons {x = piece (logAt p) (logWords p x t)} {r = logOf p} refl (length-logWords p x t (fits .logShort) (s .room p h)) Fills·nil)))
 
   inside : Inside (length t) (regions (count t) p)
   inside = inside-node (count t) p (length t) (s .high) here (s .long)
@@ -248,7 +243,7 @@ module _ (t : List ℕ) (s : Sound t) (p : ℕ) (h : p < count t) (x : Node) (fi
 
   pub put-count : count (putNode p x t) ≡ count t
   unfolding count
-  put-count = put-word-away countAt (apart-node (count t) p countAt 1 (omega arith) (omega arith) (omega arith) (omega arith) (omega arith))
+  put-count = put-word-away countAt (apart-node (count t) p countAt 1 (omega arith) (omega arith) (omega arith) (omega arith))
 
   pub put-held : held (putNode p x t) p ≡ length (x .log)
   unfolding held pieces
@@ -256,13 +251,14 @@ module _ (t : List ℕ) (s : Sound t) (p : ℕ) (h : p < count t) (x : Node) (fi
       sym (getD-part (heldAt p) 1 (putNode p x t) 0 (heldAt p) (omega arith) (omega arith)) ∙
       ap (λ (l : List ℕ). getD l 0 0) (put-back (piece (heldAt p) (length (x .log) ∷ [])) (List·Memᴰ·tail (List·Memᴰ·tail (List·Memᴰ·head refl))))
 
-  pub put-mark : mark (putNode p x t) p ≡ x .mark
-  unfolding mark pieces
-  put-mark =
-      sym (getD-part (markAt p) 1 (putNode p x t) 0 (markAt p) (omega arith) (omega arith)) ∙
-      ap (λ (l : List ℕ). getD l 0 0)
-      (put-back (piece (markAt p) (x .mark ∷ []))
-      (List·Memᴰ·tail (List·Memᴰ·tail (List·Memᴰ·tail (List·Memᴰ·tail (List·Memᴰ·head refl))))))
+  -- every mark is as it was
+  pub mark-put : (q : ℕ) → mark (putNode p x t) q ≡ mark t q
+  unfolding mark
+  mark-put q =
+      let l = here in
+      let hi = s .high in
+      put-word-away (markAt q)
+      (apart-node (count t) p (markAt q) 1 (λ u v. omega arith) (λ u v. omega arith) (λ u v. omega arith) (λ u v. omega arith))
 
   put-log : part (logAt p) (length (logWords p x t)) (putNode p x t) ≡ logWords p x t
   unfolding pieces
@@ -298,24 +294,16 @@ module _ (t : List ℕ) (s : Sound t) (p : ℕ) (h : p < count t) (x : Node) (fi
       records-agree (length (x .log)) (part (logAt p) (4 * logMost) (putNode p x t)) (words (x .log) ++ []) put-records ∙
       records-words (x .log) []
       in
-      let m = put-mark in
-      λ i. record { summary = e i; acks = k i; log = g i; mark = m i }
+      λ i. record { summary = e i; acks = k i; log = g i }
 
-  -- another node's part k words from a on, given that it stands apart from each piece, its held number and its mark
+  -- another node's part k words from a on, given that it stands apart from each piece, and its held number
   module _ (q : ℕ) (j : q < count t) (other : q ≡ p → ⊥) where
     pub put-held-other : held (putNode p x t) q ≡ held t q
     unfolding held
     put-held-other =
         let hi = s .high in
         put-word-away (heldAt q)
-        (apart-node (count t) p (heldAt q) 1 (λ u v. omega arith) (λ u v. omega arith) (λ u v. other (omega arith)) (λ u v. omega arith) (λ u v. omega arith))
-
-    pub put-mark-other : mark (putNode p x t) q ≡ mark t q
-    unfolding mark
-    put-mark-other =
-        let hi = s .high in
-        put-word-away (markAt q)
-        (apart-node (count t) p (markAt q) 1 (λ u v. omega arith) (λ u v. omega arith) (λ u v. omega arith) (λ u v. omega arith) (λ u v. other (omega arith)))
+        (apart-node (count t) p (heldAt q) 1 (λ u v. omega arith) (λ u v. omega arith) (λ u v. other (omega arith)) (λ u v. omega arith))
 
     -- another node is as it was
     pub node-other : node (putNode p x t) q ≡ node t q
@@ -325,24 +313,20 @@ module _ (t : List ℕ) (s : Sound t) (p : ℕ) (h : p < count t) (x : Node) (fi
         let e : part (summaryAt q) (count (putNode p x t)) (putNode p x t) ≡ part (summaryAt q) (count t) t =
         rw put-count
         (put-part-away (summaryAt q) (count t) (omega arith)
-        (apart-node (count t) p (summaryAt q) (count t) (λ u v. other (omega arith)) (λ u v. omega arith) (λ u v. omega arith) (λ u v. omega arith)
-        (λ u v. omega arith)))
+        (apart-node (count t) p (summaryAt q) (count t) (λ u v. other (omega arith)) (λ u v. omega arith) (λ u v. omega arith) (λ u v. omega arith)))
         in
         let k : part (acksAt q) (count (putNode p x t)) (putNode p x t) ≡ part (acksAt q) (count t) t =
         rw put-count
         (put-part-away (acksAt q) (count t) (omega arith)
-        (apart-node (count t) p (acksAt q) (count t) (λ u v. omega arith) (λ u v. other (omega arith)) (λ u v. omega arith) (λ u v. omega arith)
-        (λ u v. omega arith)))
+        (apart-node (count t) p (acksAt q) (count t) (λ u v. omega arith) (λ u v. other (omega arith)) (λ u v. omega arith) (λ u v. omega arith)))
         in
         let g : records (held (putNode p x t) q) (part (logAt q) (4 * logMost) (putNode p x t)) ≡ records (held t q) (part (logAt q) (4 * logMost) t) =
         rw put-held-other
         (ap (records (held t q))
         (put-part-away (logAt q) (4 * logMost) (omega arith)
-        (apart-node (count t) p (logAt q) (4 * logMost) (λ u v. omega arith) (λ u v. omega arith) (λ u v. omega arith) (λ u v. other (omega arith))
-        (λ u v. omega arith))))
+        (apart-node (count t) p (logAt q) (4 * logMost) (λ u v. omega arith) (λ u v. omega arith) (λ u v. omega arith) (λ u v. other (omega arith)))))
         in
-        let m = put-mark-other in
-        λ i. record { summary = e i; acks = k i; log = g i; mark = m i }
+        λ i. record { summary = e i; acks = k i; log = g i }
 
 -- a sound table stays sound when a node is put that fits it and whose records are right
 pub sound-put :
@@ -367,3 +351,66 @@ sound-put t s p h x fits right =
     rightAt : (q : ℕ) → q < count t → Dec (q ≡ p) → all (recordSound (count t)) (node (putNode p x t) q .log) ≡ true
     rightAt q g (yes e) = rw e (rw (node-same t s p h x fits) right)
     rightAt q g (no e) = rw (node-other t s p h x fits q g e) (s .right q g)
+
+-- A mark put into a sound table
+module _ (t : List ℕ) (s : Sound t) (p : ℕ) (h : p < count t) (m : ℕ) where
+  mark-fits : markAt p + 1 ≤ length t
+  mark-fits = let hi = s .high in omega (arith, s .long)
+
+  pub mark-long : length (putMark p m t) ≡ tableWords
+  unfolding putMark
+  mark-long = length-place (markAt p) (m ∷ []) t mark-fits ∙ s .long
+
+  -- a part, or a word, that does not have the mark is as it was
+  pub mark-part-away : (a k : ℕ) → a + k ≤ tableWords → (a < markAt p + 1 → markAt p < a + k → ⊥) → part a k (putMark p m t) ≡ part a k t
+  unfolding putMark
+  mark-part-away a k within apart = part-away a k (markAt p) (m ∷ []) t mark-fits (omega (arith, s .long)) apart
+
+  pub mark-word-away : (i : ℕ) → (i < markAt p + 1 → markAt p ≤ i → ⊥) → getD (putMark p m t) i 0 ≡ getD t i 0
+  unfolding putMark
+  mark-word-away i apart = getD-away i (markAt p) (m ∷ []) t mark-fits apart
+
+  -- the mark that was put is read again, and another is as it was
+  pub mark-same : mark (putMark p m t) p ≡ m
+  unfolding mark putMark
+  mark-same = getD-within (markAt p) (m ∷ []) t mark-fits 0 (markAt p) (omega arith) (omega arith)
+
+  pub mark-other : (q : ℕ) → (q ≡ p → ⊥) → mark (putMark p m t) q ≡ mark t q
+  unfolding mark
+  mark-other q other = mark-word-away (markAt q) (λ u v. other (omega arith))
+
+  pub mark-count : count (putMark p m t) ≡ count t
+  unfolding count
+  mark-count = mark-word-away countAt (λ u v. omega arith)
+
+  mark-held : (q : ℕ) → q < count t → held (putMark p m t) q ≡ held t q
+  unfolding held
+  mark-held q j = let hi = s .high in mark-word-away (heldAt q) (λ u v. omega arith)
+
+  -- every node is as it was
+  pub node-mark : (q : ℕ) → q < count t → node (putMark p m t) q ≡ node t q
+  unfolding node
+  node-mark q j =
+      let hi = s .high in
+      let e : part (summaryAt q) (count (putMark p m t)) (putMark p m t) ≡ part (summaryAt q) (count t) t =
+      rw mark-count (mark-part-away (summaryAt q) (count t) (omega arith) (λ u v. omega arith))
+      in
+      let k : part (acksAt q) (count (putMark p m t)) (putMark p m t) ≡ part (acksAt q) (count t) t =
+      rw mark-count (mark-part-away (acksAt q) (count t) (omega arith) (λ u v. omega arith))
+      in
+      let g : records (held (putMark p m t) q) (part (logAt q) (4 * logMost) (putMark p m t)) ≡ records (held t q) (part (logAt q) (4 * logMost) t) =
+      rw (mark-held q j) (ap (records (held t q)) (mark-part-away (logAt q) (4 * logMost) (omega arith) (λ u v. omega arith)))
+      in
+      λ i. record { summary = e i; acks = k i; log = g i }
+
+  -- and the table stays sound
+  pub sound-mark : Sound (putMark p m t)
+  sound-mark =
+      let c = mark-count in
+      record {
+        long = mark-long;
+        low = rw c (s .low);
+        high = rw c (s .high);
+        room = λ q g. let j = rw c at g in rw (mark-held q j) (s .room q j);
+        right = λ q g. let j = rw c at g in rw c (rw (node-mark q j) (s .right q j));
+      }

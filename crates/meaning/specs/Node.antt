@@ -18,7 +18,6 @@ wrote p t block verdict x =
       summary = set (x .summary) p t;
       acks = x .acks;
       log = x .log ++ (record { origin = p; timestamp = t; block = block; verdict = verdict } ∷ []);
-      mark = x .mark;
     }
 
 -- Session: "the own summary entry becomes the reading, then the own acknowledgement entry becomes the smallest entry of that summary"
@@ -28,7 +27,6 @@ opened p reading x =
       summary = set (x .summary) p reading;
       acks = set (x .acks) p (least (set (x .summary) p reading));
       log = x .log;
-      mark = x .mark;
     }
 
 -- what a side that finishes takes: "in the partner's log order, those records the partner held at the start" that are newer than its own starting summary
@@ -43,7 +41,6 @@ finished mine theirs =
       summary = raise (mine .summary) (theirs .summary);
       acks = raise (mine .acks) (theirs .acks);
       log = mine .log ++ sent mine theirs;
-      mark = mine .mark;
     }
 
 -- "A side that doesn't finish keeps its starting values and takes no record."
@@ -53,15 +50,16 @@ ended false mine theirs = mine
 
 -- Purge: "Every held record whose timestamp is at most" the limit "leaves."
 unfoldable pub purged : ℕ → Node → Node
-purged limit x = record { summary = x .summary; acks = x .acks; log = above limit (x .log); mark = x .mark }
+purged limit x = record { summary = x .summary; acks = x .acks; log = above limit (x .log) }
 
--- Deliver: due are "the held records above the mark and not above the smallest summary entry", and it gives them "by timestamp and then origin"
-unfoldable pub waiting : Node → List Record
-waiting x = due (x .mark) (least (x .summary)) (x .log)
+-- Deliver, of a node with mark m: due are "the held records above the mark and not above the smallest summary entry", and it gives them "by timestamp
+-- and then origin"
+unfoldable pub waiting : ℕ → Node → List Record
+waiting m x = due m (least (x .summary)) (x .log)
 
-unfoldable pub given : Node → List Record
-given x = inOrder (waiting x)
+unfoldable pub given : ℕ → Node → List Record
+given m x = inOrder (waiting m x)
 
--- and it "raises the mark to that entry where it is greater"
-unfoldable pub delivered : Node → Node
-delivered x = record { summary = x .summary; acks = x .acks; log = x .log; mark = max (x .mark) (least (x .summary)) }
+-- and it "raises the mark to that entry where it is greater"; the node itself stays
+unfoldable pub raised : ℕ → Node → ℕ
+raised m x = max m (least (x .summary))

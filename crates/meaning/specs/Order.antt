@@ -4,7 +4,7 @@ use Prim.Native.Nat.{ℕ, zero, suc}
 use Rattle.meaning.specs.declared.Record.{Record}
 use Rattle.meaning.specs.declared.Action.{Action}
 use Rattle.meaning.specs.declared.Action.the-variants.{Write, Session, Purge, Deliver}
-use Rattle.meaning.specs.Table.{node}
+use Rattle.meaning.specs.Table.{mark, node}
 use Rattle.meaning.specs.Node.{given}
 use Rattle.meaning.specs.Steps.{refusal}
 use Rattle.meaning.specs.Account.{gains, Run, Event, AStep, befell, begun}
@@ -14,7 +14,7 @@ unfoldable pub told : List ℕ → Action → (ℕ → List Record) → ℕ → 
 told t (Write p c b v) lists = lists
 told t (Session a b ca cb o) lists = lists
 told t (Purge p) lists = lists
-told t (Deliver p) lists = gains p (given (node t p)) lists
+told t (Deliver p) lists = gains p (given (mark t p) (node t p)) lists
 
 abbrev pub toldIf : ℕ → List ℕ → Action → (ℕ → List Record) → ℕ → List Record
 toldIf zero t a lists = told t a lists

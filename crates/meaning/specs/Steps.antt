@@ -12,8 +12,8 @@ use Rattle.meaning.specs.declared.Reply.{Reply}
 use Rattle.meaning.specs.declared.Reply.the-variants.{Written, Carried, Purged, Delivered, Refused}
 use Rattle.meaning.specs.Rows.{unless, least, leastAt, words}
 use Rattle.meaning.specs.Refusals.{Test, test, first}
-use Rattle.meaning.specs.Table.{Node, logMost, place, absent, node, putNode, sound}
-use Rattle.meaning.specs.Node.{own, wrote, opened, sent, finished, ended, purged, waiting, given, delivered}
+use Rattle.meaning.specs.Table.{Node, logMost, place, absent, mark, node, putNode, putMark, sound}
+use Rattle.meaning.specs.Node.{own, wrote, opened, sent, finished, ended, purged, waiting, given, raised}
 
 -- "outcome 0 finishes neither side, 1 only a, 2 only b, 3 both"
 abbrev pub finishesA : ℕ → Bool
@@ -80,7 +80,7 @@ refusal t x = first (refusals t x)
 
 -- what a purge goes by: "the smallest entry of p's acknowledgement row"; and it "removes only records that are also not above the mark"
 unfoldable pub limit : List ℕ → ℕ → ℕ
-limit t p = min (least (node t p .acks)) (node t p .mark)
+limit t p = min (least (node t p .acks)) (mark t p)
 
 -- who holds a purge up: "the node that has it (the lowest among equals)"
 unfoldable pub lagging : List ℕ → ℕ → ℕ
@@ -93,7 +93,7 @@ acted t (Session a b ca cb o) =
     putNode b (ended (finishesB o) (opened b cb (node t b)) (opened a ca (node t a)))
     (putNode a (ended (finishesA o) (opened a ca (node t a)) (opened b cb (node t b))) t)
 acted t (Purge p) = putNode p (purged (limit t p) (node t p)) t
-acted t (Deliver p) = putNode p (delivered (node t p)) t
+acted t (Deliver p) = putMark p (raised (mark t p) (node t p)) t
 
 -- "how many records it carried to each side (0 for a side that didn't finish)"
 abbrev pub carried : Bool → Node → Node → ℕ
@@ -105,7 +105,7 @@ reported t (Session a b ca cb o) =
     Carried (carried (finishesA o) (opened a ca (node t a)) (opened b cb (node t b)))
     (carried (finishesB o) (opened b cb (node t b)) (opened a ca (node t a)))
 reported t (Purge p) = Purged (length (node t p .log) - length (purged (limit t p) (node t p) .log)) (lagging t p)
-reported t (Deliver p) = Delivered (length (waiting (node t p)))
+reported t (Deliver p) = Delivered (length (waiting (mark t p) (node t p)))
 
 -- A refusal "reports zero counts and changes no word".
 abbrev pub replied : ℕ → Reply → Reply
@@ -131,7 +131,7 @@ unfoldable pub dueOf : List ℕ → Action → List Record
 dueOf t (Write p c b v) = []
 dueOf t (Session a b ca cb o) = []
 dueOf t (Purge p) = []
-dueOf t (Deliver p) = waiting (node t p)
+dueOf t (Deliver p) = waiting (mark t p) (node t p)
 
 -- "a list too short for what is due gives 7, after 6, mark and list unchanged"
 unfoldable pub lentRefusals : List ℕ → ℕ → Action → List Test
@@ -148,4 +148,4 @@ lentAfter t k x = unless (lentRefusal t k x) (acted t x) t
 
 -- "a delivery writes into a lent list" what it gives, from place 0, four words a record; "the rest of the list stays"
 unfoldable pub listAfter : List ℕ → List ℕ → ℕ → List ℕ
-listAfter t out p = unless (lentRefusal t (length out) (Deliver p)) (place 0 (words (given (node t p))) out) out
+listAfter t out p = unless (lentRefusal t (length out) (Deliver p)) (place 0 (words (given (mark t p) (node t p))) out) out

@@ -61,12 +61,11 @@ held t p = getD t (heldAt p) 0
 unfoldable pub mark : List ℕ → ℕ → ℕ
 mark t p = getD t (markAt p) 0
 
--- A node: its summary, its acknowledgements (n entries each), its log, oldest first, and its mark
+-- A node: its summary, its acknowledgements (n entries each) and its log, oldest first. Its mark stands beside it: only a delivery moves a mark
 pub record Node : Type 0 where
   pub summary : List ℕ
   pub acks : List ℕ
   pub log : List Record
-  pub mark : ℕ
 
 unfoldable pub node : List ℕ → ℕ → Node
 node t p =
@@ -74,7 +73,6 @@ node t p =
       summary = part (summaryAt p) (count t) t;
       acks = part (acksAt p) (count t) t;
       log = records (held t p) (part (logAt p) (4 * logMost) t);
-      mark = mark t p;
     }
 
 -- Words that go to a place of the table; and such pieces laid over it, the last of the list first
@@ -93,19 +91,22 @@ lay (x ∷ xs) t = place (x .at) (x .new) (lay xs t)
 abbrev pub logWords : ℕ → Node → List ℕ → List ℕ
 logWords p x t = words (x .log) ++ replicate (4 * (held t p - length (x .log))) 0
 
--- a node's words and where they go: its n entries of each row, its held number, its log, its mark
+-- a node's words and where they go: its n entries of each row, its held number, its log
 unfoldable pub pieces : ℕ → Node → List ℕ → List Piece
 pieces p x t =
     piece (summaryAt p) (x .summary) ∷
     piece (acksAt p) (x .acks) ∷
     piece (heldAt p) (length (x .log) ∷ []) ∷
     piece (logAt p) (logWords p x t) ∷
-    piece (markAt p) (x .mark ∷ []) ∷
     []
 
 -- the table with node p changed
 unfoldable pub putNode : ℕ → Node → List ℕ → List ℕ
 putNode p x t = lay (pieces p x t) t
+
+-- the table with node p's mark changed
+unfoldable pub putMark : ℕ → ℕ → List ℕ → List ℕ
+putMark p m t = place (markAt p) (m ∷ []) t
 
 -- "A fresh table has its count set and every other word zero."
 unfoldable pub fresh : ℕ → List ℕ

@@ -1,1 +1,2 @@
 pub mod LogLaws
+pub mod OwnLaws

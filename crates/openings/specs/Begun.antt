@@ -7,20 +7,21 @@ use lib.ListN.{length, take}
 use lib.Dec.{ltb}
 use Rattle.meaning.specs.declared.Record.{Record}
 use Rattle.meaning.specs.Rows.{newer, records}
-use Rattle.meaning.specs.Table.{Node, logMost, logAt, part, count, held, node, Sound}
+use Rattle.meaning.specs.Table.{Node, logMost, summaryAt, acksAt, logAt, part, count, held, node, Sound}
 use Rattle.meaning.specs.Node.{opened}
+use Rattle.rows.specs.Entry.{OneEntry}
 
--- the node that a side's starting rows, a log and a mark make
-abbrev pub begun : List ℕ → List ℕ → List Record → ℕ → Node
-begun summary acks log mark = record { summary = summary; acks = acks; log = log; mark = mark }
-
--- node p with other rows
-abbrev pub rowed : List ℕ → ℕ → List ℕ → List ℕ → Node
-rowed t p summary acks = begun summary acks (node t p .log) (node t p .mark)
+-- the node that a side's starting rows and a log make
+abbrev pub begun : List ℕ → List ℕ → List Record → Node
+begun summary acks log = record { summary = summary; acks = acks; log = log }
 
 -- the first n entries of two rows are the starting values of node p
 abbrev pub Starts : List ℕ → ℕ → ℕ → ℕ → List ℕ → List ℕ → Type 0
-Starts t p n reading summary acks = rowed t p (take n summary) (take n acks) ≡ opened p reading (node t p)
+Starts t p n reading summary acks = begun (take n summary) (take n acks) (node t p .log) ≡ opened p reading (node t p)
+
+-- rows that differ from node p's in its own entries alone
+abbrev pub OwnOnly : List ℕ → ℕ → List ℕ → List ℕ → Type 0
+OwnOnly t p summary acks = OneEntry t (summaryAt p) p summary × OneEntry t (acksAt p) p acks
 
 -- the first k records of node q's log
 abbrev pub heldLog : List ℕ → ℕ → ℕ → List Record

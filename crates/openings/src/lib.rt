@@ -7,7 +7,7 @@ ghost use lib.ListN.{length, set};
 ghost use lib.Dec.{eqb};
 ghost use Rattle.meaning.specs.Table.{nodesMost, count, part, Sound};
 ghost use Rattle.openings.specs.Begun.{heldLog, crowds, Shows, Starts};
-use logs::newer_count;
+use arrivals::newer_count;
 use rows::copy_row;
 use rows::least_with;
 

@@ -8,7 +8,7 @@ ghost use Rattle.meaning.specs.Table.{tableWords, nodesMost, logMost, logAt, co
 ghost use Rattle.meaning.specs.Steps.{limit, lagging};
 ghost use Rattle.logs.specs.Carry.{Puts, FirstLeaving};
 ghost use Rattle.looks.specs.Applied.{Applied};
-ghost use Rattle.purges.specs.Dropped.{Dropped};
+ghost use Rattle.purges.specs.Dropped.{Dropped, Passed};
 use logs::close_up;
 use logs::first_leaving;
 use looks::held_of;
@@ -107,4 +107,21 @@ pub fn purge(t: &mut [u32], node: u8) -> Reply
     let removed = (held - left) as u32;
     let lags = low.at as u8;
     Reply::Purged { removed, lags }
+}
+
+// A purge whose counts nobody reads, as of a journal's line: 1 where it is refused, else 0. The node that lags is not asked for, so that the smallest
+// entry alone is worked out, and no reply is put together.
+pub fn purge_alone(t: &mut [u32], node: u8) -> usize
+    requires { ⌜ Sound (now t) ⌝ }
+    ensures { λ r. ⌜ Passed (now (t .entry)) (Purge node) r (now (t .exit)) ⌝ }
+{
+    let p = node as usize;
+    let nodes = nodes_of(t);
+    if nodes <= p {
+        return 1;
+    }
+    let held = held_of(t, p);
+    let low = limit_of(t, p, nodes);
+    let _left = drop_rows(t, p, held, low.value);
+    0
 }

@@ -19,7 +19,7 @@ use Rattle.meaning.specs.declared.Next.{Next}
 use Rattle.meaning.specs.Journals.{nextAt}
 use Rattle.meaning.proofs.OneReply.{OneReply, OneResult}
 use Rattle.finder.specs.Parts.{Part}
-use Rattle.journal.specs.Read.{partAt, positionAt}
+use Rattle.lineparts.specs.Reached.{partAt, positionAt}
 use Rattle.finder.proofs.OnePart.{seen, one-part}
 use Rattle.reader.specs.declared.Reader.{Reader}
 use Rattle.reader.specs.Standing.{Stands}

@@ -1,9 +1,9 @@
-// "The journal reader holds the lent journal and its position": the struct, and thin functions over those of `journal` on slice and place.
+// "The journal reader holds the lent journal and its position": the struct, and thin functions over those of `journal` and `lineparts` on slice and place.
 // Document 01, "Frames and journals". What stands last is for a caller that keeps the place and has no reader.
 ghost use mathlib.Core.Path.{_≡_};
 ghost use Rattle.meaning.specs.Journals.{nextAt};
 ghost use Rattle.finder.specs.Parts.{Part};
-ghost use Rattle.journal.specs.Read.{partAt, positionAt};
+ghost use Rattle.lineparts.specs.Reached.{partAt, positionAt};
 ghost use Rattle.reader.specs.Standing.{Stands};
 use meaning::Next;
 
@@ -31,14 +31,14 @@ pub fn next<'a>(r: Reader<'a>, line: usize) -> Next
 pub fn part<'a>(r: Reader<'a>, line: usize) -> &'a [u8]
     ensures { λ l. ⌜ Part (r .entry .journal) (r .entry .at) (partAt (now (r .entry .journal)) (r .entry .at) line) l ⌝ }
 {
-    journal::part_at(r.journal, r.at, line)
+    lineparts::part_at(r.journal, r.at, line)
 }
 
 // The reader after that line, or where it was with a refusal and at the end.
 pub fn moved<'a>(r: Reader<'a>, line: usize) -> Reader<'a>
     ensures { λ q. ⌜ Stands (r .entry .journal) (positionAt (now (r .entry .journal)) (r .entry .at) line) q ⌝ }
 {
-    let at = journal::position_at(r.journal, r.at, line);
+    let at = lineparts::position_at(r.journal, r.at, line);
     Reader {
         journal: r.journal,
         at,

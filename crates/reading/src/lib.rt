@@ -82,7 +82,7 @@ pub fn read_line(s: &[u8], line: usize) -> Line
             n: numbers::byte(s, 1),
         };
     }
-    let action = contents::action(s, kind);
+    let action = actions::action(s, kind);
     Line::Act {
         step: Step { line, action },
     }

@@ -8,6 +8,7 @@ ghost use lib.ListN.{length, replicate, set};
 ghost use lib.Dec.{ltb, eqb};
 ghost use Rattle.meaning.specs.Rows.{least, leastAt, raise};
 ghost use Rattle.meaning.specs.Table.{place};
+ghost use Rattle.rows.specs.Entry.{OneEntry};
 use meaning::Least;
 
 // The smaller and the greater of two numbers.
@@ -102,13 +103,12 @@ pub fn copy_row(to: &mut [u32], from: &[u32])
     }
 }
 
-// Puts a row of words.
-pub fn put_row(t: &mut [u32], at: usize, row: &[u32])
-    requires { ⌜ at + length (now row) ≤ length (now t) ⌝ }
+// Puts a row that differs from the one there in entry i alone: no other word is stored.
+pub fn put_entry(t: &mut [u32], at: usize, i: usize, row: &[u32])
+    requires { ⌜ (at + length (now row) ≤ length (now t)) × (i < length (now row)) × OneEntry (now t) at i (now row) ⌝ }
     ensures { λ _. ⌜ now (t .exit) ≡ place at (now (row .entry)) (now (t .entry)) ⌝ }
 {
-    let end = at + row.len();
-    copy_row(&mut t[at..end], row);
+    t[at + i] = row[i];
 }
 
 // Puts, entry by entry, the greater of two rows.

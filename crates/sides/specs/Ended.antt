@@ -9,7 +9,7 @@ use Rattle.meaning.specs.Rows.{newer, raise, words}
 use Rattle.meaning.specs.Table.{Node, tableWords, nodesMost, logMost, summaryAt, acksAt, heldAt, logAt, place, count, held, node, putNode, Sound}
 use Rattle.meaning.specs.Node.{ended}
 use Rattle.meaning.specs.Steps.{overfull, carried}
-use Rattle.openings.specs.Begun.{begun, rowed, crowds, heldLog}
+use Rattle.openings.specs.Begun.{begun, crowds, heldLog, OwnOnly}
 
 -- what of a log a side takes, comparing with a row: the newer records if it finishes
 abbrev pub came : Bool → List ℕ → List Record → List Record
@@ -33,10 +33,6 @@ rowsPut finishes p sp kp sq kq t = place (summaryAt p) (merged finishes sp sq) (
 abbrev pub sided : Bool → ℕ → Node → Node → List ℕ → List ℕ
 sided finishes p x y t = putNode p (ended finishes x y) t
 
--- node q with other rows, shown with its first k records only
-abbrev pub shownTo : ℕ → ℕ → List ℕ → List ℕ → List ℕ → Node
-shownTo q k summary acks t = begun summary acks (heldLog t q k) (node t q .mark)
-
 -- Two nodes of a sound table, a row with an entry for each node, how many records p has, how many of q's it is shown, and room for what comes
 pub record Takes (t : List ℕ) (f : Bool) (p q : ℕ) (known : List ℕ) (had shown : ℕ) : Type 0 where
   pub isSound : Sound t
@@ -54,14 +50,16 @@ pub record Took (t : List ℕ) (f : Bool) (p q : ℕ) (known : List ℕ) (had sh
   pub most : r ≤ logMost
   pub leaves : u ≡ grown p (came f known (heldLog t q shown)) t
 
--- Rows of one length, to be put at node p of a table of the right length
-pub record Merges (t : List ℕ) (p : ℕ) (sp kp sq kq : List ℕ) : Type 0 where
+-- Rows of one length, to be put at node p of a table of the right length, where a side that does not finish changes its own entries alone
+pub record Merges (t : List ℕ) (f : Bool) (p : ℕ) (sp kp sq kq : List ℕ) : Type 0 where
   pub long : length t ≡ tableWords
   pub here : p < nodesMost
+  pub own : (p < length sp) × (p < length kp)
   pub high : (length sp ≤ nodesMost) × (length kp ≤ nodesMost)
   pub same : (length sq ≡ length sp) × (length kq ≡ length kp)
+  pub opens : f ≡ false → OwnOnly t p sp kp
 
--- Side p of a session with q: as for `Takes`, with all four starting rows
+-- Side p of a session with q: as for `Takes`, with all four starting rows, p's the table's but for its own entries
 pub record Sides (t : List ℕ) (f : Bool) (p q : ℕ) (sp kp sq kq : List ℕ) (had shown : ℕ) : Type 0 where
   pub isSound : Sound t
   pub here : p < count t
@@ -69,12 +67,13 @@ pub record Sides (t : List ℕ) (f : Bool) (p q : ℕ) (sp kp sq kq : List ℕ) 
   pub apart : p ≡ q → ⊥
   pub longP : (length sp ≡ count t) × (length kp ≡ count t)
   pub longQ : (length sq ≡ count t) × (length kq ≡ count t)
+  pub opens : OwnOnly t p sp kp
   pub mine : had ≡ held t p
   pub theirs : shown ≤ held t q
-  pub room : overfull f (rowed t p sp kp) (shownTo q shown sq kq t) ≡ false
+  pub room : overfull f (begun sp kp (node t p .log)) (begun sq kq (heldLog t q shown)) ≡ false
 
 -- How many records p then has, and the words at exit
 pub record Sided (t : List ℕ) (f : Bool) (p q : ℕ) (sp kp sq kq : List ℕ) (had shown r : ℕ) (u : List ℕ) : Type 0 where
-  pub total : r ≡ had + carried f (rowed t p sp kp) (shownTo q shown sq kq t)
+  pub total : r ≡ had + carried f (begun sp kp (node t p .log)) (begun sq kq (heldLog t q shown))
   pub most : r ≤ logMost
-  pub leaves : u ≡ sided f p (rowed t p sp kp) (shownTo q shown sq kq t) t
+  pub leaves : u ≡ sided f p (begun sp kp (node t p .log)) (begun sq kq (heldLog t q shown)) t

@@ -3,8 +3,8 @@
 ghost use mathlib.Core.Path.{_≡_};
 ghost use Rattle.sides.specs.Ended.{rowsPut, Merges, Sided, Sides, Takes, Took};
 use logs::carry;
+use rows::put_entry;
 use rows::put_raised;
-use rows::put_row;
 use rows::put_word;
 
 // "A side that finishes appends, in the partner's log order, those records the partner held at the start" that are newer than its own
@@ -30,17 +30,18 @@ fn take(
     had + taken
 }
 
-// "It then takes, entry by entry, the greater of both"; "A side that doesn't finish keeps its starting values".
+// "It then takes, entry by entry, the greater of both"; "A side that doesn't finish keeps its starting values",
+// which are in the table already but for its own two entries.
 fn merge(t: &mut [u32], finishes: bool, p: usize, sp: &[u32], kp: &[u32], sq: &[u32], kq: &[u32])
-    requires { ⌜ Merges (now t) p (now sp) (now kp) (now sq) (now kq) ⌝ }
+    requires { ⌜ Merges (now t) finishes p (now sp) (now kp) (now sq) (now kq) ⌝ }
     ensures { λ _. ⌜ now (t .exit) ≡ rowsPut finishes p (now (sp .entry)) (now (kp .entry)) (now (sq .entry)) (now (kq .entry)) (now (t .entry)) ⌝ }
 {
     if finishes {
         put_raised(t, layout::acks_at(p), kp, kq);
         put_raised(t, layout::summary_at(p), sp, sq);
     } else {
-        put_row(t, layout::acks_at(p), kp);
-        put_row(t, layout::summary_at(p), sp);
+        put_entry(t, layout::acks_at(p), p, kp);
+        put_entry(t, layout::summary_at(p), p, sp);
     }
 }
 

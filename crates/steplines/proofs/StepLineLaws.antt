@@ -1,9 +1,12 @@
 -- Laws of one line on a sound table: what is told of it, and what its step does, by the numbers of its digits.
 use mathlib.Core.Path.{_≡_, refl, sym, ap, _∙_}
+use mathlib.Core.Bool.{Bool, true, false}
 use mathlib.Core.List.{List}
 use Prim.Native.Nat.{ℕ, zero, suc, _+_, _*_, _/_, _%_, _≤_, _<_}
 use native.Mathlib.Omega.{arith}
-use lib.ListN.{length}
+use lib.Dec.{leb}
+use lib.ListN.{length, getD}
+use borrow.Author.Tests.{leb-true, leb-false}
 use Rattle.meaning.specs.declared.Action.{Action}
 use Rattle.meaning.specs.declared.Line.{Line}
 use Rattle.meaning.specs.declared.Line.the-variants.{Begin, Act, Refused}
@@ -16,11 +19,12 @@ use Rattle.meaning.specs.Journals.{oneIf}
 use Rattle.meaning.proofs.FrameLaws.{Good, good, read-refused}
 use Rattle.meaning.proofs.StepLaws.{verdictOf, after-sound}
 use Rattle.looks.specs.Applied.{Applied}
+use Rattle.purges.specs.Dropped.{Passed}
 use Rattle.digits.specs.Digits.{sumOf, valuesOf}
 use Rattle.numbers.specs.Numbers.{joinedAt, Joins}
 use Rattle.digits.proofs.DigitLaws.{sum-digits, length-values, values-small}
 use Rattle.heads.specs.Heads.{shortOf}
-use Rattle.heads.proofs.QuickLaws.{good-write, short-tells, short-refused, held-kind}
+use Rattle.heads.proofs.QuickLaws.{chars-kind, good-write, short-tells, short-refused, held-kind}
 use Rattle.heads.proofs.FieldLaws.{kind-lengths}
 use Rattle.heads.proofs.SaidLaws.{writeOf, write-line, purge-line, deliver-line, start-line}
 use Rattle.meaning.specs.Lines.{leftBy}
@@ -44,15 +48,20 @@ refused-counts t x = go (refusal t x)
 
 -- the step of a line, and a line that is refused
 module _ (t : List ℕ) (sound : Sound t) (l : List ℕ) where
+  pub turned-passed : {x : Action} {k : ℕ} {t′ : List ℕ} → Act (record { line = 1; action = x }) ≡ readLine 1 l → verdictOf x ≤ 255
+      → Passed t x k t′ → Turned t (readLine 1 l) k t′
+  turned-passed {x} {k} {t′} e small done =
+      record {
+        tells = done .0 ∙ ap (toldOf t) e;
+        leaves = done .1 ∙ ap (leftBy t) e;
+        isSound = rw (done .1) (after-sound t x small sound);
+      }
+
   pub turned-act : {x : Action} {r : Reply} {k : ℕ} {t′ : List ℕ} → Act (record { line = 1; action = x }) ≡ readLine 1 l → verdictOf x ≤ 255
       → Applied t x r t′ → k ≡ refusedBy r → Turned t (readLine 1 l) k t′
   turned-act {x} {r} {k} {t′} e small done counts =
       let tells : k ≡ oneIf (refusal t x) = counts ∙ ap refusedBy (done .0) ∙ refused-counts t x in
-      record {
-        tells = tells ∙ ap (toldOf t) e;
-        leaves = done .1 ∙ ap (leftBy t) e;
-        isSound = rw (done .1) (after-sound t x small sound);
-      }
+      turned-passed e small (tells, done .1)
 
   pub turned-none : (Good l → ⊥) → Turned t (readLine 1 l) 2 t
   turned-none none = go (lineRefusal l) refl
@@ -112,12 +121,21 @@ module _ (t : List ℕ) (sound : Sound t) (l : List ℕ) (long : length l ≡ 6)
   pub short-unsure : 65536 ≤ x → Turned t (readLine 1 l) 2 t
   short-unsure h = turned-none t sound l (short-refused l x e h (omega arith))
 
-  module _ (h : x < 65536) {k : ℕ} {r : Reply} {t′ : List ℕ} (counts : k ≡ refusedBy r) where
-    pub purge-turned : x / 256 ≡ 3 → Applied t (Purge (x % 256)) r t′ → Turned t (readLine 1 l) k t′
-    purge-turned is done = turned-act t sound l (purge-line l long x e h 1 is) (omega arith) done counts
+  -- the second character of an accepted one is its kind's digit
+  kind-char : x < 65536 → getD l 1 0 ≡ 48 + x / 256
+  kind-char h =
+      let g = short-tells l x e h .0 in
+      let kind = held-kind l x e (omega arith) h in
+      let small : lineKind (bytesOf l) ≤ 9 =
+      kind-lengths (λ (k n : ℕ). k ≤ 9) (omega arith) (omega arith) (omega arith) (omega arith) (omega arith) (lineKind (bytesOf l)) (g .has-kind) in
+      chars-kind l (omega arith) (lineKind (bytesOf l)) small refl .1 ∙ ap (λ (k : ℕ). 48 + k) (sym kind)
 
-    pub delivery-turned : x / 256 ≡ 5 → Applied t (Deliver (x % 256)) r t′ → Turned t (readLine 1 l) k t′
-    delivery-turned is done = turned-act t sound l (deliver-line l long x e h 1 is) (omega arith) done counts
+  module _ (h : x < 65536) {k : ℕ} {t′ : List ℕ} where
+    pub purge-turned : getD l 1 0 ≡ 51 → Passed t (Purge (x % 256)) k t′ → Turned t (readLine 1 l) k t′
+    purge-turned is done = turned-passed t sound l (purge-line l long x e h 1 (omega (arith, kind-char h))) (omega arith) done
+
+    pub delivery-turned : getD l 1 0 ≡ 53 → {r : Reply} → Applied t (Deliver (x % 256)) r t′ → k ≡ refusedBy r → Turned t (readLine 1 l) k t′
+    delivery-turned is done counts = turned-act t sound l (deliver-line l long x e h 1 (omega (arith, kind-char h))) (omega arith) done counts
 
   -- an accepted one that is neither a purge's nor a delivery's is a start's
   start-left : x < 65536 → (x / 256 ≡ 3 → ⊥) → (x / 256 ≡ 5 → ⊥) → x / 256 ≡ 0
@@ -130,7 +148,18 @@ module _ (t : List ℕ) (sound : Sound t) (l : List ℕ) (long : length l ≡ 6)
       (λ is. p (kind ∙ is)) (λ is. q (kind ∙ is)) in
       kind ∙ left
 
-  pub start-unsure : x < 65536 → (x / 256 ≡ 3 → ⊥) → (x / 256 ≡ 5 → ⊥) → Turned t (readLine 1 l) 2 t
+  start-unsure : x < 65536 → (x / 256 ≡ 3 → ⊥) → (x / 256 ≡ 5 → ⊥) → Turned t (readLine 1 l) 2 t
   start-unsure h p q =
       let is = start-line l long x e h 1 (start-left h p q) in
       record { tells = ap (toldOf t) is; leaves = ap (leftBy t) is; isSound = sound }
+
+-- six characters of which the second is neither a purge's nor a delivery's
+pub other-unsure : (t : List ℕ) → Sound t → (l : List ℕ) → length l ≡ 6 → (getD l 1 0 ≡ 51 → ⊥) → (getD l 1 0 ≡ 53 → ⊥) → Turned t (readLine 1 l) 2 t
+other-unsure t sound l long a b = go (leb 65536 (shortOf l)) refl
+  where
+    go : (v : Bool) → leb 65536 (shortOf l) ≡ v → Turned t (readLine 1 l) 2 t
+    go true p = short-unsure t sound l long (shortOf l) refl (leb-true 65536 (shortOf l) p)
+    go false p =
+        let h = leb-false 65536 (shortOf l) p in
+        let char = kind-char t sound l long (shortOf l) refl h in
+        start-unsure t sound l long (shortOf l) refl h (λ is. a (char ∙ ap (λ (k : ℕ). 48 + k) is)) (λ is. b (char ∙ ap (λ (k : ℕ). 48 + k) is))

@@ -2,7 +2,7 @@
 // the numbers of the digits. What is not told so to be a step is left to the reader of lines. A session's line is `sessionline`'s.
 // Inner functions of the loop over a journal's lines: what they require, it shows.
 ghost use mathlib.Core.Path.{_≡_};
-ghost use lib.ListN.{length};
+ghost use lib.ListN.{length, getD};
 ghost use Rattle.meaning.specs.Table.{Sound};
 ghost use Rattle.meaning.specs.Frames.{readLine};
 ghost use Rattle.steplines.specs.StepLines.{refusedBy, Turned, Begins};
@@ -48,19 +48,40 @@ pub fn write_line(s: &[u8], t: &mut [u32]) -> usize
     count(r)
 }
 
-// The step of six characters: a purge's or a delivery's. A start is none.
-pub fn short_step(s: &[u8], t: &mut [u32]) -> usize
-    requires { ⌜ Sound (now t) × (length (now s) ≡ 6) ⌝ }
+// The step of a purge's six characters. Which node lags is asked by nobody here.
+fn purge_line(s: &[u8], t: &mut [u32]) -> usize
+    requires { ⌜ Sound (now t) × (length (now s) ≡ 6) × (getD (now s) 1 0 ≡ 51) ⌝ }
     ensures { λ r. ⌜ Turned (now (t .entry)) (readLine 1 (now (s .entry))) r (now (t .exit)) ⌝ }
 {
     let x = short_line(s[0], s[1], s[2], s[3], s[4], s[5]);
     if NO_LINE <= x {
         return UNSURE;
     }
-    let node = (x % 256) as u8;
-    match x / 256 {
-        3 => count(purges::purge(t, node)),
-        5 => count(deliveries::deliver_alone(t, node)),
+    purges::purge_alone(t, (x % 256) as u8)
+}
+
+// The step of a delivery's six characters.
+fn deliver_line(s: &[u8], t: &mut [u32]) -> usize
+    requires { ⌜ Sound (now t) × (length (now s) ≡ 6) × (getD (now s) 1 0 ≡ 53) ⌝ }
+    ensures { λ r. ⌜ Turned (now (t .entry)) (readLine 1 (now (s .entry))) r (now (t .exit)) ⌝ }
+{
+    let line = short_line(s[0], s[1], s[2], s[3], s[4], s[5]);
+    if NO_LINE <= line {
+        return UNSURE;
+    }
+    let r = deliveries::deliver_alone(t, (line % 256) as u8);
+    count(r)
+}
+
+// The step of six characters, a purge's or a delivery's: the kind's second character tells them apart before a digit is read, so that each is read
+// as if it were the only one. A start is none.
+pub fn short_step(s: &[u8], t: &mut [u32]) -> usize
+    requires { ⌜ Sound (now t) × (length (now s) ≡ 6) ⌝ }
+    ensures { λ r. ⌜ Turned (now (t .entry)) (readLine 1 (now (s .entry))) r (now (t .exit)) ⌝ }
+{
+    match s[1] {
+        b'3' => purge_line(s, t),
+        b'5' => deliver_line(s, t),
         _ => UNSURE,
     }
 }

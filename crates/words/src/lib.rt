@@ -31,7 +31,7 @@ fn put_sure(s: &[u8], words: &mut [u32]) -> bool
     }
     match s.len() {
         24 => six::put_write(&s[0..24], words),
-        26 => six::put_session(&s[0..26], words),
+        26 => sessionwords::put_session(&s[0..26], words),
         _ => false,
     }
 }

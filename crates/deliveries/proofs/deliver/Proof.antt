@@ -10,8 +10,8 @@ use lib.Dec.{ltb}
 use Rattle.meaning.specs.declared.Record.{Record}
 use Rattle.meaning.specs.declared.Reply.the-variants.{Delivered, Refused}
 use Rattle.meaning.specs.Rows.{due, inOrder, least, words}
-use Rattle.meaning.specs.Table.{count, node, place, putNode, Sound}
-use Rattle.meaning.specs.Node.{waiting, given, delivered}
+use Rattle.meaning.specs.Table.{count, mark, node, place, putMark, Sound}
+use Rattle.meaning.specs.Node.{waiting, given, raised}
 use Rattle.meaning.specs.Steps.{acted, reported}
 use Rattle.deliveries.specs.Lent.{Lent}
 use Rattle.deliveries.proofs.LentLaws.{lent-is-3, lent-is-7, lent-is-0, lent-refuse, lent-accept}
@@ -23,31 +23,31 @@ module _ (t : List ℕ) (s : Sound t) (list : List ℕ) (p n : ℕ) (en : n ≡ 
   absent : n ≤ p → Lent t list p (Refused 3) t list
   absent h = lent-refuse t list p 2 (lent-is-3 t p (length list) s (omega arith))
 
-  module _ (h : p < n) (mark low : ℕ) (em : mark ≡ node t p .mark) (el : low ≡ least (node t p .summary)) (b : Bool)
-      (eb : b ≡ ltb (length list) (4 * length (due mark low (node t p .log)))) where
-    is-due : due mark low (node t p .log) ≡ waiting (node t p)
+  module _ (h : p < n) (m low : ℕ) (em : m ≡ mark t p) (el : low ≡ least (node t p .summary)) (b : Bool)
+      (eb : b ≡ ltb (length list) (4 * length (due m low (node t p .log)))) where
+    is-due : due m low (node t p .log) ≡ waiting (mark t p) (node t p)
     unfolding waiting
     is-due = ap₂ (λ (x y : ℕ). due x y (node t p .log)) em el
 
     short : b ≡ true → Lent t list p (Refused 7) t list
     short g =
         let l = ap length is-due in
-        let few = ltb-true (length list) (4 * length (due mark low (node t p .log))) (sym eb ∙ g) in
+        let few = ltb-true (length list) (4 * length (due m low (node t p .log))) (sym eb ∙ g) in
         lent-refuse t list p 6 (lent-is-7 t p (length list) s (omega arith) (omega arith))
 
-    room : b ≡ false → 4 * length (due mark low (node t p .log)) ≤ length list
-    room g = ltb-false (length list) (4 * length (due mark low (node t p .log))) (sym eb ∙ g)
+    room : b ≡ false → 4 * length (due m low (node t p .log)) ≤ length list
+    room g = ltb-false (length list) (4 * length (due m low (node t p .log))) (sym eb ∙ g)
 
     done :
-        b ≡ false → (k : ℕ) (u out : List ℕ) → k ≡ length (due mark low (node t p .log)) →
-        out ≡ place 0 (words (inOrder (due mark low (node t p .log)))) list → u ≡ putNode p (delivered (node t p)) t → Lent t list p (Delivered k) u out
+        b ≡ false → (k : ℕ) (u out : List ℕ) → k ≡ length (due m low (node t p .log)) →
+        out ≡ place 0 (words (inOrder (due m low (node t p .log)))) list → u ≡ putMark p (raised m (node t p)) t → Lent t list p (Delivered k) u out
     unfolding reported acted given
     done g k u out ek eo eu =
         let l = ap length is-due in
         let r = room g in
         let a = lent-accept t list p (lent-is-0 t p (length list) s (omega arith) (omega arith)) in (
           ap Delivered (ek ∙ l) ∙ a .0,
-          eu ∙ a .1,
+          eu ∙ ap (λ (i : ℕ). putMark p (raised i (node t p)) t) em ∙ a .1,
           eo ∙ ap (λ (x : List Record). place 0 (words (inOrder x)) list) is-due ∙ a .2,
         )
 

@@ -7,8 +7,8 @@ use lib.ListN.{length}
 use Rattle.meaning.specs.declared.Action.the-variants.{Deliver}
 use Rattle.meaning.specs.declared.Reply.the-variants.{Delivered, Refused}
 use Rattle.meaning.specs.Rows.{due, least}
-use Rattle.meaning.specs.Table.{count, node, putNode, Sound}
-use Rattle.meaning.specs.Node.{waiting, delivered}
+use Rattle.meaning.specs.Table.{count, mark, node, putMark, Sound}
+use Rattle.meaning.specs.Node.{waiting, raised}
 use Rattle.meaning.specs.Steps.{acted, reported}
 use Rattle.meaning.proofs.StepLaws.{deliver-is-3, deliver-is-0, refuse, accept}
 use Rattle.looks.specs.Applied.{Applied}
@@ -21,12 +21,12 @@ module _ (t : List ℕ) (s : Sound t) (p n : ℕ) (en : n ≡ count t) where
   absent h = refuse t (Deliver p) 2 (deliver-is-3 t s p (omega arith))
 
   done :
-      p < n → (mark low k : ℕ) (u : List ℕ) → mark ≡ node t p .mark → low ≡ least (node t p .summary) → k ≡ length (due mark low (node t p .log)) →
-      u ≡ putNode p (delivered (node t p)) t → Applied t (Deliver p) (Delivered k) u
+      p < n → (m low k : ℕ) (u : List ℕ) → m ≡ mark t p → low ≡ least (node t p .summary) → k ≡ length (due m low (node t p .log)) →
+      u ≡ putMark p (raised m (node t p)) t → Applied t (Deliver p) (Delivered k) u
   unfolding reported acted waiting
-  done h mark low k u em el ek eu =
+  done h m low k u em el ek eu =
       let a = accept t (Deliver p) (deliver-is-0 t s p (omega arith)) in
-      (ap Delivered (ek ∙ ap₂ (λ (x y : ℕ). length (due x y (node t p .log))) em el) ∙ a .0, eu ∙ a .1)
+      (ap Delivered (ek ∙ ap₂ (λ (x y : ℕ). length (due x y (node t p .log))) em el) ∙ a .0, eu ∙ ap (λ (i : ℕ). putMark p (raised i (node t p)) t) em ∙ a .1)
 
 nodes-of-requires : tie.Need-nodes-of-requires
 nodes-of-requires c κs = search needs

@@ -1,37 +1,29 @@
 -- `deliveries::raise_mark` meets its contract: the entry put where it is greater, and else the mark is the greater of both already.
-use mathlib.Core.Path.{_≡_, sym, ap, _∙_}
+use mathlib.Core.Path.{_≡_, sym, _∙_}
 use mathlib.Core.List.{List, [], _∷_}
-use Prim.Native.Nat.{ℕ, _≤_, _<_, max}
+use Prim.Native.Nat.{ℕ, _≤_, _<_}
 use native.Mathlib.Omega.{arith}
-use lib.ListN.{set}
-use lib.Seq.{set-getD}
 use Rattle.meaning.specs.Rows.{least}
-use Rattle.meaning.specs.Table.{markAt, count, mark, node, place, putNode, Sound}
-use Rattle.meaning.specs.Node.{delivered}
-use Rattle.meaning.proofs.PlaceLaws.{set-place}
-use Rattle.meaning.proofs.PutLaws.{deliver-put}
+use Rattle.meaning.specs.Table.{markAt, count, mark, node, place, putMark, Sound}
+use Rattle.meaning.specs.Node.{raised}
+use Rattle.meaning.proofs.PutLaws.{put-mark-same}
 use borrow.Author.Needs.{needs}
 use Rattle.deliveries.proofs.raise_mark.Statement.{statement}
 use Rattle.deliveries.proofs.raise_mark.Tie as tie
 
-module _ (t : List ℕ) (s : Sound t) (p : ℕ) (h : p < count t) (m low : ℕ) (em : m ≡ node t p .mark) (el : low ≡ least (node t p .summary)) where
-  raised : m < low → (at : ℕ) (u : List ℕ) → at ≡ markAt p → u ≡ place at (low ∷ []) t → u ≡ putNode p (delivered (node t p)) t
-  raised g at u ea eu =
-      let e : low ≡ max (node t p .mark) (least (node t p .summary)) = omega arith in
-      eu ∙ ap (λ (i : ℕ). place i (low ∷ []) t) ea ∙ deliver-put t s p h low e
+module _ (t : List ℕ) (p m low : ℕ) (el : low ≡ least (node t p .summary)) where
+  put : m < low → (at : ℕ) (u : List ℕ) → at ≡ markAt p → u ≡ place at (low ∷ []) t → u ≡ putMark p (raised m (node t p)) t
+  unfolding putMark raised
+  put g at u ea eu =
+      let e : low ≡ raised m (node t p) = omega arith in
+      eu ∙ (λ i. place (ea i) (e i ∷ []) t)
 
   -- the mark put where it stands
-  stands : place (markAt p) (m ∷ []) t ≡ t
-  unfolding node mark
-  stands =
-      let l = s .long in
-      let b = s .high in
-      sym (set-place t (markAt p) m (omega arith)) ∙ ap (set t (markAt p)) em ∙ set-getD t (markAt p) 0
-
-  left : low ≤ m → t ≡ putNode p (delivered (node t p)) t
-  left g =
-      let e : m ≡ max (node t p .mark) (least (node t p .summary)) = omega arith in
-      sym stands ∙ deliver-put t s p h m e
+  left : Sound t → p < count t → m ≡ mark t p → low ≤ m → t ≡ putMark p (raised m (node t p)) t
+  unfolding raised
+  left s h em g =
+      let e : raised m (node t p) ≡ m = omega arith in
+      sym (put-mark-same t s p h (raised m (node t p)) (e ∙ em))
 
 mark-at-requires : tie.Need-mark-at-requires
 mark-at-requires c κs = search needs
@@ -48,13 +40,13 @@ returns c =
     let at-mark-at = at-put-word .before in
     let at-if1 = at-mark-at .before .before in
     let start = at-if1 .before .before in
-    raised (start .args .t .now) (start .pre .0) (start .args .p) (start .pre .1) (start .args .mark) (start .args .limit) (start .pre .2) (start .pre .3)
-    (at-if1 .if1 .taken) (at-mark-at .mark-at .result) (at-put-word .put-word .last .0) (at-mark-at .mark-at .ensures) (at-put-word .put-word .ensures)
+    put (start .args .t .now) (start .args .p) (start .args .mark) (start .args .limit) (start .pre .3) (at-if1 .if1 .taken)
+    (at-mark-at .mark-at .result) (at-put-word .put-word .last .0) (at-mark-at .mark-at .ensures) (at-put-word .put-word .ensures)
 
 returns-2 : tie.Need-returns-2
 returns-2 c =
     let start = c .before .before in
-    left (start .args .t .now) (start .pre .0) (start .args .p) (start .pre .1) (start .args .mark) (start .args .limit) (start .pre .2) (start .pre .3)
+    left (start .args .t .now) (start .args .p) (start .args .mark) (start .args .limit) (start .pre .3) (start .pre .0) (start .pre .1) (start .pre .2)
     (c .if1 .left)
 
 pub raise-mark-spec : {M : Type 1} → statement M

@@ -35,7 +35,7 @@ both t p n c sa ka low r k pre es ek er el ef =
     let b : take n k ≡ set (part (acksAt p) (count t) t) p (least (set (part (summaryAt p) (count t) t) p c)) =
     first t k ka n p low m (omega arith) ef ∙ ap₂ (λ (x y : ℕ). set (part x y t) p low) ek en ∙ ap (set (part (acksAt p) (count t) t) p) l
     in
-    λ i. record { summary = a i; acks = b i; log = node t p .log; mark = node t p .mark }
+    λ i. record { summary = a i; acks = b i; log = node t p .log }
 
 summary-at-requires : tie.Need-summary-at-requires
 summary-at-requires c κs = search needs

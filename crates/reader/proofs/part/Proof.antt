@@ -57,14 +57,14 @@ use denote.Triple.Walked.{says, Stays, stay-none, walkOf, goes-none, Walks, ends
 use denote.Exit.{yes}
 use denote.Triple.Clauses.{ensured, lasts}
 use Rattle.finder.specs.Parts.{Part}
-use Rattle.journal.specs.Read.{partAt}
+use Rattle.lineparts.specs.Reached.{partAt}
 use Rattle.reader.specs.declared.Reader.{Reader}
 use Rattle.reader.proofs.Reader.Laws as T′
 use Rattle.reader.proofs.Holding.{Row, machine, D, L, Own, three, two, OnThree, OnTwo, apart}
-use Rattle.journal.proofs.part_at as at
-use Rattle.journal.proofs.part_at.Symbol as at-def
-use Rattle.journal.proofs.part_at.Symbol.{name as #journal·part-at}
-use Rattle.journal.proofs.part_at.Met as at-thm
+use Rattle.lineparts.proofs.part_at as at
+use Rattle.lineparts.proofs.part_at.Symbol as at-def
+use Rattle.lineparts.proofs.part_at.Symbol.{name as #lineparts·part-at}
+use Rattle.lineparts.proofs.part_at.Met as at-thm
 use Rattle.reader.proofs.part.Key.{name as #reader·part}
 use Rattle.reader.proofs.part as part
 use Rattle.reader.proofs.part.Statement as stated
@@ -110,7 +110,7 @@ module _ {M : Type 1} (𝓤 : URA M) (H : Heap 𝓤) (A : Atoms 𝓤) (W : Given
       says ! e $ move ! (1 ∷ []) $ frame ! $ nothing ! $ owned ! usize (Is usize) (uint-makes 𝓤 H A W w64) n _ (refl, ok) $ fjoin ! $
       move ! (2 ∷ 0 ∷ []) $ fjoin ! $ frame ! $ done !
 
-  module _ (C : Calls 𝓤 H) (Λ : Loops 𝓤 H) (fm : FmC 𝓤 H (W .laws) C) (known : Triple 𝓤 (C #journal·part-at) (PartAt 𝓤 H A mem run)) where
+  module _ (C : Calls 𝓤 H) (Λ : Loops 𝓤 H) (fm : FmC 𝓤 H (W .laws) C) (known : Triple 𝓤 (C #lineparts·part-at) (PartAt 𝓤 H A mem run)) where
     walk : Holds (hasTy (T′.mir (named 0)) (machine d)) × WT (machine d)
         → ent 𝓤 (OnTwo 𝓤 H A W κ q d n) (WpFn 𝓤 H C Λ code.function (machine d ∷ vint w64 n ∷ []) Post)
     walk wt =
@@ -137,7 +137,7 @@ module _ {M : Type 1} (𝓤 : URA M) (H : Heap 𝓤) (A : Atoms 𝓤) (W : Given
         move ! (3 ∷ 4 ∷ []) $ free1 ! $ free0 ! $ by ! (exits r u e))))))))))
 
 module _ {M : Type 1} (𝓤 : URA M) (H : Heap 𝓤) (A : Atoms 𝓤) (W : Given 𝓤 H A) (mem : Memory → SProp 𝓤) (run : Routine → Fun 𝓤) where
-  part-walks : (C : Calls 𝓤 H) (Λ : Loops 𝓤 H) → FmC 𝓤 H (W .laws) C → Triple 𝓤 (C #journal·part-at) (PartAt 𝓤 H A mem run)
+  part-walks : (C : Calls 𝓤 H) (Λ : Loops 𝓤 H) → FmC 𝓤 H (W .laws) C → Triple 𝓤 (C #lineparts·part-at) (PartAt 𝓤 H A mem run)
       → Walks 𝓤 H A part.ended stayed (WpFn 𝓤 H C Λ code.function) (part.clauses 𝓤 H A mem run)
   part-walks C Λ fm known =
       walked 𝓤 H A part.ended stayed (part.clauses 𝓤 H A mem run) (WpFn 𝓤 H C Λ code.function)
@@ -148,7 +148,7 @@ module _ {M : Type 1} (𝓤 : URA M) (H : Heap 𝓤) (A : Atoms 𝓤) (W : Given
       (LL.lawful (D (κs .0)) (L (κs .0)) 𝓤 H A W .typed (a .0) _ (are .0) .0)))
 
 part-meets : {M : Type 1} (𝓤 : URA M) (H : Heap 𝓤) (A : Atoms 𝓤) (W : Given 𝓤 H A) (mem : Memory → SProp 𝓤) (run : Routine → Fun 𝓤) (𝓣 : Tables 𝓤 H)
-    → Triple 𝓤 (𝓣 .C #journal·part-at) (PartAt 𝓤 H A mem run)
+    → Triple 𝓤 (𝓣 .C #lineparts·part-at) (PartAt 𝓤 H A mem run)
     → Meets 𝓤 H A part.signature (WpFn 𝓤 H (𝓣 .C) (𝓣 .Λ) code.function) (part.spec 𝓤 H A mem run)
 part-meets 𝓤 H A W mem run 𝓣 known =
     walk-meets 𝓤 H A part.ended stayed W
@@ -162,4 +162,4 @@ part-spec 𝓤 H 𝓜 𝓖 𝓡 =
     entered 𝓤 H (tripleOf 𝓤 H (𝓖 .A) part.signature (part.spec 𝓤 H (𝓖 .A) (𝓜 .mem) (𝓡 .run)))
     (tables 𝓤 H 𝓜 𝓡 code.env .C) (tables 𝓤 H 𝓜 𝓡 code.env .Λ) #reader·part code.function (code.unfolded 𝓤 H 𝓜 𝓡)
     (part-meets 𝓤 H (𝓖 .A) (givenOf 𝓤 H 𝓜 𝓖) (𝓜 .mem) (𝓡 .run) (tablesOf 𝓤 H 𝓜 (tables 𝓤 H 𝓜 𝓡 code.env))
-    (cited 𝓤 H (PartAt 𝓤 H (𝓖 .A) (𝓜 .mem) (𝓡 .run)) 𝓜 𝓡 code.env #journal·part-at at-def.routine code.calls-journal·part-at (at-thm.met 𝓤 H 𝓜 𝓖 𝓡)))
+    (cited 𝓤 H (PartAt 𝓤 H (𝓖 .A) (𝓜 .mem) (𝓡 .run)) 𝓜 𝓡 code.env #lineparts·part-at at-def.routine code.calls-lineparts·part-at (at-thm.met 𝓤 H 𝓜 𝓖 𝓡)))

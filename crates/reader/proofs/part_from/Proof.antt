@@ -77,7 +77,7 @@ use denote.Triple.Walked.{says, Stays, stay-none, stay-none-slice, walkOf, goes-
 use denote.Exit.{yes}
 use denote.Triple.Clauses.{ensured, lasts}
 use Rattle.finder.specs.Parts.{Part}
-use Rattle.journal.specs.Read.{partAt}
+use Rattle.lineparts.specs.Reached.{partAt}
 use Rattle.reader.specs.declared.Reader.{Reader}
 use Rattle.reader.specs.Standing.{Stands}
 use Rattle.reader.proofs.Reader as T

@@ -84,7 +84,7 @@ use denote.Triple.Table.{entered, cited}
 use denote.Triple.Walked.{says, Stays, stay-none, stay-none-slice, walkOf, goes-none, goes-none-slice, Walks, ends-at, walked, walk-meets}
 use denote.Exit.{yes}
 use denote.Triple.Clauses.{ensured, lasts}
-use Rattle.journal.specs.Read.{positionAt}
+use Rattle.lineparts.specs.Reached.{positionAt}
 use Rattle.reader.specs.declared.Reader.{Reader}
 use Rattle.reader.specs.Standing.{Stands}
 use Rattle.reader.proofs.Reader as T

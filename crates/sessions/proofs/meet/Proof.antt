@@ -14,7 +14,8 @@ use Rattle.meaning.specs.Steps.{acted, reported}
 use Rattle.meaning.proofs.TableLaws.{node-shaped}
 use Rattle.meaning.proofs.StepLaws.{opened-shaped, session-is-5-a, session-is-5-b, session-is-6, session-is-0, refuse, accept}
 use Rattle.looks.specs.Applied.{Applied}
-use Rattle.openings.specs.Begun.{rowed, Starts}
+use Rattle.openings.specs.Begun.{begun, Starts}
+use Rattle.openings.proofs.OwnLaws.{own-starts}
 use Rattle.exchanges.specs.Met.{crowded, Exchanged, Meets, Traded}
 use borrow.Author.Needs.{needs}
 use Rattle.sessions.proofs.meet.Statement.{statement}
@@ -44,7 +45,7 @@ module _ (t : List ℕ) (a b ca cb o : ℕ) (pre : Sound t × (a < count t) × (
   module _ (n : ℕ) (en : n ≡ count t) (m : ℕ) (em : m ≡ n) (sa ka sb kb : List ℕ) (ea : Starts t a n ca sa ka) (eb : Starts t b n cb sb kb) where
     -- the lent parts of a node's rows are its starting values
     lent : (p c : ℕ) (s k : List ℕ) → Starts t p n c s k → Starts t p m c s k
-    lent p c s k e = ap (λ (i : ℕ). rowed t p (take i s) (take i k)) em ∙ e
+    lent p c s k e = ap (λ (i : ℕ). begun (take i s) (take i k) (node t p .log)) em ∙ e
 
     long : (p c : ℕ) → p < count t → (s k : List ℕ) → Starts t p n c s k → (length (take m s) ≡ count t) × (length (take m k) ≡ count t)
     long p c h s k e =
@@ -60,6 +61,8 @@ module _ (t : List ℕ) (a b ca cb o : ℕ) (pre : Sound t × (a < count t) × (
           apart = pre .3;
           longA = long a ca (pre .1) sa ka ea;
           longB = long b cb (pre .2) sb kb eb;
+          opensA = own-starts t (pre .0) a (pre .1) m ca sa ka (lent a ca sa ka ea);
+          opensB = own-starts t (pre .0) b (pre .2) m cb sb kb (lent b cb sb kb eb);
         }
 
     done :

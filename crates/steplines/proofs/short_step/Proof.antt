@@ -1,120 +1,51 @@
--- `short_step` meets its contract: no line, a start, or the step of a purge or a delivery.
-use mathlib.Core.Path.{_∙_, ap}
-use native.Mathlib.Omega.{arith}
-use Rattle.heads.specs.Heads.{shortOf}
-use Rattle.heads.proofs.HeadLaws.{six-of}
-use Rattle.steplines.proofs.StepLineLaws.{short-unsure, purge-turned, delivery-turned, start-unsure}
+-- `short_step` meets its contract, by the second character.
+use Rattle.steplines.proofs.StepLineLaws.{other-unsure}
 use borrow.Author.Needs.{needs}
 use Rattle.steplines.proofs.short_step.Statement.{statement}
 use Rattle.steplines.proofs.short_step.Tie as tie
 
-shared-slice-read-short-line : tie.Need-shared-slice-read-short-line
-shared-slice-read-short-line c = search needs
+shared-slice-read-match : tie.Need-shared-slice-read-match
+shared-slice-read-match c = search needs
 
-shared-slice-read-short-line-2 : tie.Need-shared-slice-read-short-line-2
-shared-slice-read-short-line-2 c = search needs
+purge-line-requires : tie.Need-purge-line-requires
+purge-line-requires c κs =
+    let at-match = c .before in
+    let start = at-match .before .before .before .before in
+    (start .pre .0, start .pre .1, at-match .match .keys1)
 
-shared-slice-read-short-line-3 : tie.Need-shared-slice-read-short-line-3
-shared-slice-read-short-line-3 c = search needs
-
-shared-slice-read-short-line-4 : tie.Need-shared-slice-read-short-line-4
-shared-slice-read-short-line-4 c = search needs
-
-shared-slice-read-short-line-5 : tie.Need-shared-slice-read-short-line-5
-shared-slice-read-short-line-5 c = search needs
-
-shared-slice-read-short-line-6 : tie.Need-shared-slice-read-short-line-6
-shared-slice-read-short-line-6 c = search needs
-
-short-line-requires : tie.Need-short-line-requires
-short-line-requires c κs = search needs
-
-returns : tie.Need-returns
-returns c =
-    let at-short = c .before in
-    let at-read = at-short .before .before .before .before .before .before in
-    let start = at-read .before .before .before in
-    let s = start .args .s .now in
-    short-unsure (start .args .t .now) (start .pre .0) s (start .pre .1) (at-short .short-line .result)
-    (at-short .short-line .ensures ∙ ap shortOf (six-of s (start .pre .1))) (omega (arith, c .if1 .taken))
-
-cast-node : tie.Need-cast-node
-cast-node c = search needs
-
-purge-requires : tie.Need-purge-requires
-purge-requires c κs = search needs
-
-count-requires : tie.Need-count-requires
-count-requires c κs = search needs
-
-deliver-alone-requires : tie.Need-deliver-alone-requires
-deliver-alone-requires c κs = search needs
-
-count-requires-2 : tie.Need-count-requires-2
-count-requires-2 c κs = search needs
+deliver-line-requires : tie.Need-deliver-line-requires
+deliver-line-requires c κs =
+    let at-match = c .before in
+    let start = at-match .before .before .before .before in
+    (start .pre .0, start .pre .1, at-match .match .keys2)
 
 same-length : tie.Need-same-length
 same-length c = search needs
 
-returns-2 : tie.Need-returns-2
-returns-2 c =
-    let at-purge = c .before .before .before in
-    let at-match = at-purge .before .before in
-    let at-if1 = at-match .before in
-    let at-short = at-if1 .before in
-    let at-read = at-short .before .before .before .before .before .before in
-    let start = at-read .before .before .before in
-    let s = start .args .s .now in
-    purge-turned (start .args .t .now) (start .pre .0) s (start .pre .1) (at-short .short-line .result)
-    (at-short .short-line .ensures ∙ ap shortOf (six-of s (start .pre .1))) (at-if1 .if1 .left) (c .count .ensures) (at-match .match .keys1)
-    (at-purge .purge .ensures)
+returns : tie.Need-returns
+returns c = c .before .before .purge-line .ensures
 
 same-length-2 : tie.Need-same-length-2
 same-length-2 c = search needs
 
+returns-2 : tie.Need-returns-2
+returns-2 c = c .before .before .deliver-line .ensures
+
 returns-3 : tie.Need-returns-3
 returns-3 c =
-    let at-deliver = c .before .before .before in
-    let at-match = at-deliver .before .before in
-    let at-if1 = at-match .before in
-    let at-short = at-if1 .before in
-    let at-read = at-short .before .before .before .before .before .before in
-    let start = at-read .before .before .before in
-    let s = start .args .s .now in
-    delivery-turned (start .args .t .now) (start .pre .0) s (start .pre .1) (at-short .short-line .result)
-    (at-short .short-line .ensures ∙ ap shortOf (six-of s (start .pre .1))) (at-if1 .if1 .left) (c .count2 .ensures) (at-match .match .keys2)
-    (at-deliver .deliver-alone .ensures)
-
-returns-4 : tie.Need-returns-4
-returns-4 c =
-    let at-if1 = c .before in
-    let at-short = at-if1 .before in
-    let at-read = at-short .before .before .before .before .before .before in
-    let start = at-read .before .before .before in
-    let s = start .args .s .now in
+    let start = c .before .before .before .before in
     let other = c .match .rest in
-    start-unsure (start .args .t .now) (start .pre .0) s (start .pre .1) (at-short .short-line .result)
-    (at-short .short-line .ensures ∙ ap shortOf (six-of s (start .pre .1))) (at-if1 .if1 .left) (other .0 .1) (other .1)
+    other-unsure (start .args .t .now) (start .pre .0) (start .args .s .now) (start .pre .1) (other .0 .1) (other .1)
 
 pub short-step-spec : {M : Type 1} → statement M
 short-step-spec =
     tie.close
     (tie.spec
-    shared-slice-read-short-line
-    shared-slice-read-short-line-2
-    shared-slice-read-short-line-3
-    shared-slice-read-short-line-4
-    shared-slice-read-short-line-5
-    shared-slice-read-short-line-6
-    short-line-requires
-    returns
-    cast-node
-    purge-requires
-    count-requires
-    deliver-alone-requires
-    count-requires-2
+    shared-slice-read-match
+    purge-line-requires
+    deliver-line-requires
     same-length
-    returns-2
+    returns
     same-length-2
-    returns-3
-    returns-4)
+    returns-2
+    returns-3)

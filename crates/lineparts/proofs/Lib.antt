@@ -1,0 +1,2 @@
+pub mod Agreeing
+pub mod OneReply
