@@ -25,7 +25,9 @@ type Write = unsafe extern "C" fn(*mut u32, usize, u8, u32, u32, u8) -> u32;
 type Session = unsafe extern "C" fn(*mut u32, usize, u8, u8, u32, u32, u8, *mut u32, *mut u32) -> u32;
 type Purge = unsafe extern "C" fn(*mut u32, usize, u8, *mut u32, *mut u32) -> u32;
 type Deliver = unsafe extern "C" fn(*mut u32, usize, u8, *mut u32, usize, *mut u32) -> u32;
-type Count = unsafe extern "C" fn(*const u32, usize, *mut u32, *mut u32) -> u32;
+type Count = unsafe extern "C" fn(*const u32, usize, *mut u32, *mut u32, *mut u32) -> u32;
+type CountNode = unsafe extern "C" fn(*const u32, usize, u8, *mut u32, *mut u32, *mut u32) -> u32;
+type CountBefore = unsafe extern "C" fn(*const u32, usize, *mut u32, *mut u32) -> u32;
 type ApplyLine = unsafe extern "C" fn(*mut u32, usize, *const u8, usize, *mut u32, *mut u32, *mut usize) -> u32;
 type ApplyLines = unsafe extern "C" fn(*mut u32, usize, *const u8, usize, *mut usize, *mut usize, *mut usize, *mut usize) -> u32;
 type Replay = unsafe extern "C" fn(*const u8, usize, *mut u32, usize, *mut u8, usize) -> u32;
@@ -47,13 +49,14 @@ struct Api {
     purge: Purge,
     deliver: Deliver,
     count: Count,
+    count_node: CountNode,
     apply_line: ApplyLine,
     apply_lines: ApplyLines,
     replay: Replay,
 }
 
 macro_rules! api {
-    ($check_line:ident $read_line:ident $kind:ident $field:ident $frame_start:ident $frame_write:ident $frame_session:ident $frame_purge:ident $frame_deliver:ident $write:ident $session:ident $purge:ident $deliver:ident $count:ident $apply_line:ident $apply_lines:ident $replay:ident) => {{
+    ($check_line:ident $read_line:ident $kind:ident $field:ident $frame_start:ident $frame_write:ident $frame_session:ident $frame_purge:ident $frame_deliver:ident $write:ident $session:ident $purge:ident $deliver:ident $count:ident $count_node:ident $apply_line:ident $apply_lines:ident $replay:ident) => {{
         extern "C" {
             fn $check_line(l: *const u8, n: usize, p: *mut usize) -> u32;
             fn $read_line(l: *const u8, n: usize, v: *mut u32, m: usize, p: *mut usize) -> u32;
@@ -68,7 +71,8 @@ macro_rules! api {
             fn $session(w: *mut u32, n: usize, a: u8, b: u8, x: u32, y: u32, c: u8, r: *mut u32, s: *mut u32) -> u32;
             fn $purge(w: *mut u32, n: usize, p: u8, r: *mut u32, l: *mut u32) -> u32;
             fn $deliver(w: *mut u32, n: usize, p: u8, l: *mut u32, m: usize, r: *mut u32) -> u32;
-            fn $count(w: *const u32, n: usize, s: *mut u32, t: *mut u32) -> u32;
+            fn $count(w: *const u32, n: usize, s: *mut u32, t: *mut u32, g: *mut u32) -> u32;
+            fn $count_node(w: *const u32, n: usize, p: u8, s: *mut u32, t: *mut u32, g: *mut u32) -> u32;
             fn $apply_line(w: *mut u32, n: usize, l: *const u8, m: usize, x: *mut u32, y: *mut u32, p: *mut usize) -> u32;
             fn $apply_lines(w: *mut u32, n: usize, l: *const u8, m: usize, x: *mut usize, y: *mut usize, z: *mut usize, p: *mut usize) -> u32;
             fn $replay(j: *const u8, n: usize, w: *mut u32, m: usize, o: *mut u8, r: usize) -> u32;
@@ -88,6 +92,7 @@ macro_rules! api {
             purge: $purge,
             deliver: $deliver,
             count: $count,
+            count_node: $count_node,
             apply_line: $apply_line,
             apply_lines: $apply_lines,
             replay: $replay,
@@ -97,16 +102,16 @@ macro_rules! api {
 
 fn apis() -> [Api; 3] {
     [
-        api!(pollencart_check_line pollencart_read_line pollencart_kind pollencart_field pollencart_frame_start pollencart_frame_write pollencart_frame_session pollencart_frame_purge pollencart_frame_deliver pollencart_write pollencart_session pollencart_purge pollencart_deliver pollencart_count pollencart_apply_line pollencart_apply_lines pollencart_replay),
-        api!(plain_check_line plain_read_line plain_kind plain_field plain_frame_start plain_frame_write plain_frame_session plain_frame_purge plain_frame_deliver plain_write plain_session plain_purge plain_deliver plain_count plain_apply_line plain_apply_lines plain_replay),
-        api!(clang_check_line clang_read_line clang_kind clang_field clang_frame_start clang_frame_write clang_frame_session clang_frame_purge clang_frame_deliver clang_write clang_session clang_purge clang_deliver clang_count clang_apply_line clang_apply_lines clang_replay),
+        api!(pollencart_check_line pollencart_read_line pollencart_kind pollencart_field pollencart_frame_start pollencart_frame_write pollencart_frame_session pollencart_frame_purge pollencart_frame_deliver pollencart_write pollencart_session pollencart_purge pollencart_deliver pollencart_count pollencart_count_node pollencart_apply_line pollencart_apply_lines pollencart_replay),
+        api!(plain_check_line plain_read_line plain_kind plain_field plain_frame_start plain_frame_write plain_frame_session plain_frame_purge plain_frame_deliver plain_write plain_session plain_purge plain_deliver plain_count plain_count_node plain_apply_line plain_apply_lines plain_replay),
+        api!(clang_check_line clang_read_line clang_kind clang_field clang_frame_start clang_frame_write clang_frame_session clang_frame_purge clang_frame_deliver clang_write clang_session clang_purge clang_deliver clang_count clang_count_node clang_apply_line clang_apply_lines clang_replay),
     ]
 }
 
 const COLUMNS: [&str; 4] = ["library", "C, gcc", "C, clang", "Rust"];
 const ROUNDS: usize = 61;
 
-/// One row: its name and, for each column, a sample: nanoseconds for one operation.
+/// One row: its name and, for each column, a sample: nanoseconds for one operation. A row without the library's column has no ratio.
 struct Row {
     name: String,
     samples: Vec<Box<dyn FnMut() -> f64>>,
@@ -486,20 +491,91 @@ fn journals(rows: &mut Vec<Row>) {
     journal(rows, "the run of a full journal with deliveries", 7, &with, 1);
 }
 
+/// Records of four words: row i has this origin, this block and this verdict.
+fn list(records: u32, row: impl Fn(u32) -> [u32; 3]) -> Vec<u32> {
+    (0..records).flat_map(|i| [row(i)[0], i + 1, row(i)[1], row(i)[2]]).collect()
+}
+
+/// The count of a list by a C library: the refusal, then scrubbed, touched and the gap.
+fn counted(api: Api, words: &[u32]) -> (u32, [u32; 3]) {
+    let mut c = [0; 3];
+    let [scrubbed, touched, gap] = &mut c;
+    let refusal = unsafe { (api.count)(black_box(words.as_ptr()), words.len(), scrubbed, touched, gap) };
+    (refusal, c)
+}
+
 fn counts(rows: &mut Vec<Row>) {
-    for records in [4usize, 64] {
-        let words: Vec<u32> = (0..4 * records).map(|i| (i as u32 * 37) % 256).collect();
-        let rust = words.clone();
+    // blocks as a scrubber reads them, one after another, at all 16 origins, each touched
+    let different = |i: u32| [i % 16, 70_000 + i, 0x20];
+    let lists: [(&str, Vec<u32>); 7] = [
+        ("4 records", (0..16).map(|i| (i * 37) % 256).collect()),
+        ("64 records", (0..256).map(|i| (i * 37) % 256).collect()),
+        ("4 different blocks", list(4, different)),
+        ("16 different blocks", list(16, different)),
+        ("64 different blocks", list(64, different)),
+        ("16 blocks four times", list(64, |i| [3, 70_000 + i % 16, if i < 32 { 0x10 } else { 0x20 }])),
+        ("one block 64 times", list(64, |_| [3, 70_000, 0x20])),
+    ];
+    for (name, words) in lists {
+        let should = (0, model::count(&words).unwrap());
+        apis().into_iter().for_each(|api| assert_eq!(counted(api, &words), should, "{name}"));
         let c = |api: Api| {
             let words = words.clone();
-            move |_: usize| unsafe {
-                let (mut scrubbed, mut touched) = (0, 0);
-                (api.count)(black_box(words.as_ptr()), words.len(), &mut scrubbed, &mut touched);
-                black_box((scrubbed, touched));
+            move |_: usize| seen(counted(api, &words))
+        };
+        let rust = words.clone();
+        rows.push(row(&format!("the verdict count, {name}"), 2000, c, move |_| seen(model::count(black_box(&rust)))));
+    }
+    node_counts(rows);
+    counts_before(rows, list(64, different));
+}
+
+/// The count of node 0's log, all of its blocks different, and the scan of the whole table before it.
+fn node_counts(rows: &mut Vec<Row>) {
+    for (n, held, which) in [(2, 4, "2 nodes, 4 held"), (16, 64, "16 nodes, 64 held")] {
+        let mut table = cluster(n, held);
+        table.logs[0].iter_mut().take(held as usize).for_each(|r| r.verdict = 0x20);
+        let mut words = Vec::new();
+        table.to_words(&mut words);
+        let c = |api: Api| {
+            let words = words.clone();
+            move |_: usize| {
+                let mut c = [0; 3];
+                let [scrubbed, touched, gap] = &mut c;
+                let refusal = unsafe { (api.count_node)(black_box(words.as_ptr()), words.len(), black_box(0), scrubbed, touched, gap) };
+                assert_eq!((refusal, c), (0, [held, held, 0]));
             }
         };
-        rows.push(row(&format!("the verdict count, {records} records"), 2000, c, move |_| seen(model::count(black_box(&rust)))));
+        let rust = words.clone();
+        let log = move |_: usize| {
+            let table = Table::from_words(black_box(&rust)).unwrap();
+            assert!(table.sound());
+            let log: Vec<u32> = table.log(0).iter().flat_map(|r| [r.origin, r.timestamp, r.block, r.verdict]).collect();
+            seen(model::count(&log));
+        };
+        rows.push(row(&format!("the verdict count of a node's log ({which})"), 500, c, log));
     }
+}
+
+/// The count by the rule before T-05, which only plain C still has: what the different blocks cost beside a count of records.
+fn counts_before(rows: &mut Vec<Row>, words: Vec<u32>) {
+    extern "C" {
+        fn plain_count_before(w: *const u32, n: usize, s: *mut u32, t: *mut u32) -> u32;
+        fn clang_count_before(w: *const u32, n: usize, s: *mut u32, t: *mut u32) -> u32;
+    }
+    let before = |count: CountBefore| {
+        let words = words.clone();
+        sample(
+            2000,
+            || (),
+            move |_| {
+                let (mut scrubbed, mut touched) = (0, 0);
+                seen(unsafe { count(black_box(words.as_ptr()), words.len(), &mut scrubbed, &mut touched) });
+                black_box((scrubbed, touched));
+            },
+        )
+    };
+    rows.push(Row { name: "the count of records before T-05, 64 records".into(), samples: vec![before(plain_count_before), before(clang_count_before)] });
 }
 
 /// The median and the spread (the distance of the quartiles, as a share of the median).
@@ -526,19 +602,25 @@ fn main() {
     rows.retain(|row| chosen.is_empty() || chosen.iter().any(|word| row.name.contains(word)));
     println!("| ns for one | {} | ratio | spread |", COLUMNS.join(" | "));
     println!("|---|{}---:|---:|", "---:|".repeat(COLUMNS.len()));
-    let mut below = Vec::new();
+    let (mut below, mut compared) = (Vec::new(), 0);
     for row in &mut rows {
-        let mut samples = vec![Vec::new(); COLUMNS.len()];
+        let columns = row.samples.len();
+        let mut samples = vec![Vec::new(); columns];
         for sample in &mut row.samples {
             sample();
         }
         for round in 0..ROUNDS {
-            for turn in 0..COLUMNS.len() {
-                let column = (round + turn) % COLUMNS.len();
+            for turn in 0..columns {
+                let column = (round + turn) % columns;
                 samples[column].push((row.samples[column])());
             }
         }
         let middles: Vec<(f64, f64)> = samples.into_iter().map(middle).collect();
+        if columns < COLUMNS.len() {
+            println!("| {} | | {:.1} | {:.1} | | | {:.0} % |", row.name, middles[0].0, middles[1].0, middles[0].1.max(middles[1].1));
+            continue;
+        }
+        compared += 1;
         let better = middles[1..].iter().map(|m| m.0).fold(f64::INFINITY, f64::min);
         let ratio = better / middles[0].0;
         let times: Vec<String> = middles.iter().map(|m| format!("{:.1}", m.0)).collect();
@@ -549,5 +631,5 @@ fn main() {
         }
     }
     println!("\nratio: the better of the others to the library; above 1 the library is the faster.");
-    println!("{} of {} rows below 1.0{}", below.len(), rows.len(), if below.is_empty() { String::new() } else { format!(": {}", below.join("; ")) });
+    println!("{} of {compared} rows below 1.0{}", below.len(), if below.is_empty() { String::new() } else { format!(": {}", below.join("; ")) });
 }

@@ -86,12 +86,12 @@ static void purge(uint8_t node)
     printf("\n");
 }
 
-/* Scrubbed, touched and the gap in one node's log. */
+/* Scrubbed, touched and the gap in one node's log: different blocks, however often each was read. */
 static void count(uint8_t node)
 {
-    uint32_t scrubbed, touched;
-    refused("count", pollencart_count_node(table, POLLENCART_TABLE, node, &scrubbed, &touched));
-    printf("node %d: %" PRIu32 " scrubbed, %" PRIu32 " touched, gap %" PRIu32 "\n", node, scrubbed, touched, scrubbed - touched);
+    uint32_t scrubbed, touched, gap;
+    refused("count", pollencart_count_node(table, POLLENCART_TABLE, node, &scrubbed, &touched, &gap));
+    printf("node %d: %" PRIu32 " scrubbed, %" PRIu32 " touched, gap %" PRIu32 "\n", node, scrubbed, touched, gap);
 }
 
 int main(void)
@@ -104,7 +104,7 @@ int main(void)
     /* what the two others found while they were away comes in at once */
     uint8_t backlog[3 * POLLENCART_FRAME];
     size_t length = frame_of(backlog, 1, 6, 9001, POLLENCART_VERDICT_BAD);
-    length += frame_of(backlog + length, 1, 9, 9001, POLLENCART_VERDICT_REPAIRED);
+    length += frame_of(backlog + length, 1, 9, 9001, POLLENCART_VERDICT_REPAIRED); /* the same block again: it counts once */
     length += frame_of(backlog + length, 2, 8, 70000, POLLENCART_VERDICT_CACHE + 2); /* any byte of the class */
     arrive(backlog, length);
 

@@ -231,14 +231,22 @@ uint32_t pollencart_held(const uint32_t *table, size_t table_len, uint8_t node);
 uint32_t pollencart_mark(const uint32_t *table, size_t table_len, uint8_t node);
 uint32_t pollencart_record(const uint32_t *table, size_t table_len, uint8_t node, uint32_t index, uint32_t word);
 
-/* The verdict count: scrubbed is the number of records with a verdict of 10 to 4F, touched of those with 20 to 4F. Both are
- * stored, 0 if refused.
+/* The verdict count. A block is a pair of origin and block number: the same number at another origin is another block. However
+ * often a block was read, it is counted once:
+ *   scrubbed  the different blocks with at least one record whose verdict is 10 to 4F
+ *   touched   the different blocks with at least one record whose verdict is 20 to 4F; each of them is scrubbed too
+ *   gap       scrubbed less touched: blocks that were logged as scrubbed while no drive was read
+ * A block answered from page cache and read from platter, in either order, counts once in scrubbed, once in touched and not in
+ * the gap. In which order records stand, and their timestamps, play no part. All three are stored, 0 if refused.
  *
- * count:      over records of four words as in a log. Refused with 1 if words_len is above 256 or not a multiple of 4, or if a
- *             verdict is above 255. No word but the verdicts matters.
- * count_node: over a node's log in a table. Refused with 1 if the table is not sound, then with 3 if the node is n or more. */
-uint32_t pollencart_count(const uint32_t *words, size_t words_len, uint32_t *scrubbed, uint32_t *touched);
-uint32_t pollencart_count_node(const uint32_t *table, size_t table_len, uint8_t node, uint32_t *scrubbed, uint32_t *touched);
+ * count:      over records of four words as in a log, a delivery's list for instance. Refused with 1 if words_len is above 256 or
+ *             not a multiple of 4, or if a verdict is above 255. Any origin is taken, also one that is no node.
+ * count_node: over a node's log in a table. Refused with 1 if the table is not sound, then with 3 if the node is n or more.
+ *
+ * Before version 0.2.0 a block counted once for each of its records, and no gap was stored. */
+uint32_t pollencart_count(const uint32_t *words, size_t words_len, uint32_t *scrubbed, uint32_t *touched, uint32_t *gap);
+uint32_t pollencart_count_node(const uint32_t *table, size_t table_len, uint8_t node, uint32_t *scrubbed, uint32_t *touched,
+                               uint32_t *gap);
 
 /* The replay: reads a journal, runs its steps on a fresh table and puts the text that the program `replay` prints at the beginning
  * of out. Answers the number of bytes written, 0 to POLLENCART_TEXT; no zero byte ends them, and no byte after them is changed.

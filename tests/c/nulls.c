@@ -54,17 +54,18 @@ static void lists(uint8_t *bytes, uint32_t *words) {
     expect("frame_deliver", pollencart_frame_deliver(bytes, 0, 0, &length), POLLENCART_ROOM);
     expect("its length", length, 0);
 
-    uint32_t scrubbed = UNSET, touched = UNSET;
-    expect("count", pollencart_count(words, 0, &scrubbed, &touched), 0);
+    uint32_t scrubbed = UNSET, touched = UNSET, gap = UNSET;
+    expect("count", pollencart_count(words, 0, &scrubbed, &touched, &gap), 0);
     expect("scrubbed of none", scrubbed, 0);
     expect("touched of none", touched, 0);
+    expect("the gap of none", gap, 0);
 }
 
 /* Tables of length 0. */
 static void tables(uint32_t *table) {
     expect("fresh", pollencart_fresh(table, 0, 2), POLLENCART_UNSOUND);
     expect("write", pollencart_write(table, 0, 0, 5, 16, POLLENCART_VERDICT_CACHE), POLLENCART_UNSOUND);
-    uint32_t to_a = UNSET, to_b = UNSET, removed = UNSET, lags = UNSET, scrubbed = UNSET, touched = UNSET;
+    uint32_t to_a = UNSET, to_b = UNSET, removed = UNSET, lags = UNSET, scrubbed = UNSET, touched = UNSET, gap = UNSET;
     expect("session", pollencart_session(table, 0, 0, 1, 6, 4, POLLENCART_FINISH_BOTH, &to_a, &to_b), POLLENCART_UNSOUND);
     expect("to a", to_a, 0);
     expect("to b", to_b, 0);
@@ -83,9 +84,10 @@ static void tables(uint32_t *table) {
     expect("acknowledgement", pollencart_acknowledgement(table, 0, 0, 0), 0);
     expect("held", pollencart_held(table, 0, 0), 0);
     expect("record", pollencart_record(table, 0, 0, 0, 0), 0);
-    expect("count_node", pollencart_count_node(table, 0, 0, &scrubbed, &touched), POLLENCART_UNSOUND);
+    expect("count_node", pollencart_count_node(table, 0, 0, &scrubbed, &touched, &gap), POLLENCART_UNSOUND);
     expect("scrubbed", scrubbed, 0);
     expect("touched", touched, 0);
+    expect("the gap", gap, 0);
 }
 
 /* Lists of length 0: enough where nothing is due, too short where something is. */

@@ -269,11 +269,11 @@ static void look(size_t len, uint32_t n) {
     const uint32_t *w = lend();
     for (uint32_t i = 0; i < 21; i++) {
         uint32_t p = i < 17 ? i : beyond[i - 17];
-        uint32_t held = p < n ? due[held_at(p)] : 0, s = UNSET, t = UNSET;
+        uint32_t held = p < n ? due[held_at(p)] : 0, s = UNSET, t = UNSET, gap = UNSET;
         expect(pollencart_held(w, len, (uint8_t)p) == held, "held", "the number");
         expect(pollencart_mark(w, len, (uint8_t)p) == (p < n ? due[mark_at(p)] : 0), "mark", "the number");
-        uint32_t number = pollencart_count_node(w, len, (uint8_t)p, &s, &t);
-        expect(number == (p < n ? 0 : n ? 3 : 1) && t <= s && s <= held, "count_node", "the number");
+        uint32_t number = pollencart_count_node(w, len, (uint8_t)p, &s, &t, &gap);
+        expect(number == (p < n ? 0 : n ? 3 : 1) && t <= s && s <= held && gap == s - t, "count_node", "the number, the counts and the gap");
         for (uint32_t j = 0; j < 21; j++) {
             uint32_t o = j < 17 ? j : beyond[j - 17];
             int entry = p < n && o < n;

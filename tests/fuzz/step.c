@@ -36,7 +36,10 @@ static size_t fill(void)
     for (uint32_t p = 0; p < n; p++) {
         uint32_t held = plain[held_at(p)] = number(1) % (ROOM + 1);
         for (uint32_t i = 0; i < held; i++) {
-            plain[record_at(p, i, 0)] %= n, plain[record_at(p, i, 3)] &= 255;
+            uint32_t *verdict = plain + record_at(p, i, 3);
+            plain[record_at(p, i, 0)] %= n, *verdict = how & 32 ? *verdict << 4 : *verdict & 255; /* every class either way */
+            if (how & 128)
+                plain[record_at(p, i, 2)] &= 7; /* blocks that were read often */
         }
     }
     for (uint32_t many = number(1) % 8; many; many--) {
@@ -126,8 +129,9 @@ static void call(uint32_t *table, size_t length)
         same(pollencart_purge(table, length, p, w, w + 1) == plain_purge(plain, length, p, w + 2, w + 3), "purge");
         same(w[0] == w[2] && w[1] == w[3], "the removed count, and the node that lags");
     } else if (op % 8 == 6) {
-        same(pollencart_count_node(table, length, p, w, w + 1) == plain_count_node(plain, length, p, w + 2, w + 3), "count_node");
-        same(w[0] == w[2] && w[1] == w[3], "the counts");
+        uint32_t c[6] = { 7, 7, 7, 7, 7, 7 };
+        same(pollencart_count_node(table, length, p, c, c + 1, c + 2) == plain_count_node(plain, length, p, c + 3, c + 4, c + 5), "count_node");
+        same(!memcmp(c, c + 3, 12), "the counts and the gap");
     } else {
         same(pollencart_summary(table, length, p, q) == plain_summary(plain, length, p, q), "summary");
         same(pollencart_acknowledgement(table, length, p, q) == plain_acknowledgement(plain, length, p, q), "acknowledgement");
@@ -139,9 +143,37 @@ static void call(uint32_t *table, size_t length)
     }
 }
 
+/* A list of records of the data, most often whole ones: few pairs of origin and block, any origin, any verdict and now and then one that is none. */
+static size_t records(void)
+{
+    uint32_t how = number(1);
+    size_t words = how < 240 ? how % (ROOM + 2) * RECORD : number(1) + 10u;
+    for (size_t i = 0; i < words; i += RECORD) {
+        uint32_t pair = number(1), verdict = number(1);
+        plain[i] = pair >> 4 & 3 ? pair >> 6 : pair << 24, plain[i + 1] = (uint32_t)i, plain[i + 2] = pair & 15;
+        plain[i + 3] = verdict == 0x7F ? 256 : verdict & 0x7F;
+    }
+    return words;
+}
+
+/* The count of a list of words that is lent, and of the same in `plain`. */
+static void count(const uint32_t *list, const uint32_t *other, size_t words)
+{
+    uint32_t c[6] = { 7, 7, 7, 7, 7, 7 };
+    same(pollencart_count(list, words, c, c + 1, c + 2) == plain_count(other, words, c + 3, c + 4, c + 5), "count");
+    same(!memcmp(c, c + 3, 12), "the counts and the gap of a list");
+    same(!memcmp(list, other, 4 * words), "the list's words");
+}
+
 int LLVMFuzzerTestOneInput(const uint8_t *data, size_t size)
 {
     data_at = data, data_left = size;
+    if (size % 4 == 3) {
+        size_t words = records();
+        uint32_t *list = (uint32_t *)(void *)lend(&table_part, sizeof plain, 4 * words, size % 8 == 3);
+        memcpy(list, plain, 4 * words);
+        count(list, plain, words);
+    }
     size_t length = fill();
     uint32_t *table = (uint32_t *)(void *)lend(&table_part, sizeof plain, 4 * length, size % 2);
     memcpy(table, plain, 4 * length);
@@ -150,10 +182,7 @@ int LLVMFuzzerTestOneInput(const uint8_t *data, size_t size)
         same(!memcmp(table, plain, 4 * length), "the table's words");
     }
     size_t words = length < 300 ? length : number(1) + 10;
-    uint32_t w[4];
-    if (words <= length) {
-        same(pollencart_count(table + length - words, words, w, w + 1) == plain_count(plain + length - words, words, w + 2, w + 3), "count");
-        same(w[0] == w[2] && w[1] == w[3], "the counts of a list");
-    }
+    if (words <= length)
+        count(table + length - words, plain + length - words, words);
     return 0;
 }

@@ -172,6 +172,21 @@ static uint32_t *apply(uint32_t op, const uint32_t *bytes, uint32_t size, uint32
     return put(out, table, 4 * (size_t)length);
 }
 
+/* The count of a list of words, or of a node's log: the number, scrubbed, touched, the gap, and whether the words counted stayed. */
+static uint32_t *count(uint32_t op, const uint32_t *c, uint32_t *out)
+{
+    uint32_t number, scrubbed = 0xFFFFFFFF, touched = 0xFFFFFFFF, gap = 0xFFFFFFFF, stayed = 1;
+    if (op == COUNT) {
+        const uint32_t *list = (const uint32_t *)(const void *)lend(&the_list, c + 1, 4 * (size_t)c[0]);
+        number = pollencart_count(list, c[0], &scrubbed, &touched, &gap);
+        stayed = __builtin_memcmp(list, c + 1, 4 * (size_t)c[0]) == 0;
+    } else {
+        number = pollencart_count_node(table, length, (uint8_t)c[0], &scrubbed, &touched, &gap);
+    }
+    *out++ = number, *out++ = scrubbed, *out++ = touched, *out++ = gap, *out++ = stayed;
+    return out;
+}
+
 static uint32_t *look(const uint32_t *c, uint32_t *out)
 {
     *out++ = pollencart_summary(table, length, (uint8_t)c[0], (uint8_t)c[1]);
@@ -185,7 +200,7 @@ static uint32_t *look(const uint32_t *c, uint32_t *out)
 /* Runs the calls and gives the number of words of answers. */
 static size_t execute(const uint32_t *c, uint32_t *answers)
 {
-    uint32_t *out = answers, x, y;
+    uint32_t *out = answers;
     if (!the_table.guard) {
         prepare(&the_table, 4 * 8192), prepare(&the_bytes, 262144), prepare(&the_list, 4 * 8192), prepare(&the_out, 65536);
     }
@@ -206,17 +221,7 @@ static size_t execute(const uint32_t *c, uint32_t *answers)
         case FRAME: out = frame(c, out), c += 7; break;
         case REPLAY: out = replay(c, out), c += 3 + (c[0] + 3) / 4; break;
         case COUNT:
-            x = y = 0xFFFFFFFF;
-            *out++ = pollencart_count((const uint32_t *)(const void *)lend(&the_list, c + 1, 4 * (size_t)c[0]), c[0], &x, &y);
-            *out++ = x, *out++ = y;
-            c += 1 + c[0];
-            break;
-        case COUNT_NODE:
-            x = y = 0xFFFFFFFF;
-            *out++ = pollencart_count_node(table, length, (uint8_t)c[0], &x, &y);
-            *out++ = x, *out++ = y;
-            c += 1;
-            break;
+        case COUNT_NODE: out = count(op, c, out), c += op == COUNT ? 1 + c[0] : 1; break;
         case LOOK: out = look(c, out), c += 4; break;
         case APPLY_LINE:
         case APPLY_LINES: out = apply(op, c + 1, c[0], out), c += 1 + (c[0] + 3) / 4; break;

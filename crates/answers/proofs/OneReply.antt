@@ -23,7 +23,7 @@ one-first κs a x y s s' p q = p ∙ sym q
 pub one-second : OneResult 0 second-kinds.ps second-kinds.r second.Post
 one-second κs a x y s s' p q = p ∙ sym q
 
-pub one-store : OneReply 2 store-kinds.ps store-kinds.r store.Post (λ κs x s. x ∷ now (s .1 .0) ∷ now (s .1 .1 .0) ∷ [])
+pub one-store : OneReply 3 store-kinds.ps store-kinds.r store.Post (λ κs x s. x ∷ now (s .1 .0) ∷ now (s .1 .1 .0) ∷ now (s .1 .1 .1 .0) ∷ [])
 one-store κs a x y s s' p q = p ∙ sym q
 
 pub one-locate : OneReply 1 locate-kinds.ps locate-kinds.r locate.Post (λ κs x s. x ∷ now (s .1 .0) ∷ [])

@@ -51,22 +51,25 @@ pub fn second_of(answer: Reply) -> u32
     }
 }
 
-// Takes a count's answer apart: its number, and its two counts into the words lent.
-pub fn store(answer: Count, scrubbed: &mut u32, touched: &mut u32) -> u32
-    ensures { λ r. ⌜ (r ∷ now (scrubbed .exit) ∷ now (touched .exit) ∷ []) ≡ countValues answer ⌝ }
+// Takes a count's answer apart: its number, and its two counts and their gap into the words lent.
+pub fn store(answer: Count, scrubbed: &mut u32, touched: &mut u32, gap: &mut u32) -> u32
+    ensures { λ r. ⌜ (r ∷ now (scrubbed .exit) ∷ now (touched .exit) ∷ now (gap .exit) ∷ []) ≡ countValues answer ⌝ }
 {
     match answer {
         Count::Counted {
             scrubbed: s,
             touched: t,
+            gap: g,
         } => {
             *scrubbed = s;
             *touched = t;
+            *gap = g;
             0
         }
         Count::Refused { number } => {
             *scrubbed = 0;
             *touched = 0;
+            *gap = 0;
             number
         }
     }

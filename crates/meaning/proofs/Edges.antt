@@ -1,5 +1,5 @@
--- Both sides of each edge: the cases that document 01 marks ★, the places of T-01, the nodes of T-02 and the deliveries of T-04, as one table that is
--- computed. A row has a name, what the definitions compute and what is expected, and holds by computation; where one does not, the checker says
+-- Both sides of each edge: the cases that document 01 marks ★, the places of T-01, the nodes of T-02, the deliveries of T-04 and the pairs of T-05, as one
+-- table that is computed. A row has a name, what the definitions compute and what is expected, and holds by computation; where one does not, the checker says
 -- `Holds "its name" ..` of the first that fails. The theorem `edges` is the whole table at once. Each step runs on a real table of 4,641 words: its row
 -- shows the refusal, both counts, and place and new value of every word that changed, so that no other word did.
 use mathlib.Core.Path.{_≡_, refl}
@@ -106,7 +106,19 @@ use Rattle.meaning.specs.Journals.{
   nodeLines,
   printed,
 }
-use Rattle.meaning.specs.Verdicts.{classOf, scrubbed, touched, counted, countRefusal, verdictCount, countValues}
+use Rattle.meaning.specs.Verdicts.{
+  classOf,
+  among,
+  different,
+  pairsOf,
+  scrubbed,
+  touched,
+  gap,
+  counted,
+  countRefusal,
+  verdictCount,
+  countValues,
+}
 
 both-left : (a b : Bool) → T (a && b) → T a
 both-left true b h = tt
@@ -177,9 +189,13 @@ marked t =
 abbrev acked : ℕ → List ℕ → List ℕ
 acked n row = place (acksAt 0) row (fresh n)
 
--- one record of this verdict, counted: refusal, scrubbed, touched
+-- some records counted: refusal, scrubbed, touched, gap
+counts : List ℕ → List ℕ
+counts w = countValues (verdictCount w)
+
+-- one record of this verdict
 verdict : ℕ → List ℕ
-verdict v = countValues (verdictCount (0 ∷ 1 ∷ 16 ∷ v ∷ []))
+verdict v = counts (0 ∷ 1 ∷ 16 ∷ v ∷ [])
 
 line : String → List ℕ
 line s = lineValues (readLine 1 (ascii s))
@@ -203,8 +219,8 @@ unfolding every keep least leastAt raise covers newer above due earlier inserted
     lentRefusal lentReply lentAfter listAfter digit digitValue spelled bytesOf allDigits strayAt total
     check journalKinds knownIn widthsIn digitsIn fieldPlaceIn highFirst number packed unpacked actionOf sealed frameIn frame startFrame lineKind
     fieldsIn first firstPlace fieldTests lineTests lineRefusal linePlace readLine untilLF hasLF unended lineAt placeAfter nextIn stepsFrom journal
-    afterAll refusedOf replayed replayAfter decimalIn decimal spaced said nodeLine nodeLines printed classOf scrubbed touched counted countRefusal
-    verdictCount changes does answers refused gives reached verdict line replays example told same Holds
+    afterAll refusedOf replayed replayAfter decimalIn decimal spaced said nodeLine nodeLines printed classOf among different pairsOf
+    scrubbed touched gap counted countRefusal verdictCount counts changes does answers refused gives reached verdict line replays example told same Holds
 rows =
     -- the tables that rows begin from, each computed once
     let two : List ℕ = fresh 2 in
@@ -341,14 +357,26 @@ rows =
     row "a session's frame" (frame (Session 0 1 6 4 3)) (ascii "020001000000060000000403F0\n") tt ∷
     row "a purge's frame" (frame (Purge 0)) (ascii "0300FD\n") tt ∷
     row "a delivery's frame" (frame (Deliver 0)) (ascii "0500FB\n") tt ∷
-    row "verdict 0F" (verdict 0x0f) (0 ∷ 0 ∷ 0 ∷ []) tt ∷
-    row "verdict 10" (verdict 0x10) (0 ∷ 1 ∷ 0 ∷ []) tt ∷
-    row "verdict 1F" (verdict 0x1f) (0 ∷ 1 ∷ 0 ∷ []) tt ∷
-    row "verdict 20" (verdict 0x20) (0 ∷ 1 ∷ 1 ∷ []) tt ∷
-    row "verdict 30" (verdict 0x30) (0 ∷ 1 ∷ 1 ∷ []) tt ∷
-    row "verdict 3F" (verdict 0x3f) (0 ∷ 1 ∷ 1 ∷ []) tt ∷
-    row "verdict 4F" (verdict 0x4f) (0 ∷ 1 ∷ 1 ∷ []) tt ∷
-    row "verdict 50" (verdict 0x50) (0 ∷ 0 ∷ 0 ∷ []) tt ∷
+    row "verdict 0F" (verdict 0x0f) (0 ∷ 0 ∷ 0 ∷ 0 ∷ []) tt ∷
+    row "verdict 10" (verdict 0x10) (0 ∷ 1 ∷ 0 ∷ 1 ∷ []) tt ∷
+    row "verdict 1F" (verdict 0x1f) (0 ∷ 1 ∷ 0 ∷ 1 ∷ []) tt ∷
+    row "verdict 20" (verdict 0x20) (0 ∷ 1 ∷ 1 ∷ 0 ∷ []) tt ∷
+    row "verdict 30" (verdict 0x30) (0 ∷ 1 ∷ 1 ∷ 0 ∷ []) tt ∷
+    row "verdict 3F" (verdict 0x3f) (0 ∷ 1 ∷ 1 ∷ 0 ∷ []) tt ∷
+    row "verdict 4F" (verdict 0x4f) (0 ∷ 1 ∷ 1 ∷ 0 ∷ []) tt ∷
+    row "verdict 50" (verdict 0x50) (0 ∷ 0 ∷ 0 ∷ 0 ∷ []) tt ∷
+    row "one block thrice" (counts (0 ∷ 1 ∷ 16 ∷ 0x20 ∷ 0 ∷ 2 ∷ 16 ∷ 0x20 ∷ 0 ∷ 3 ∷ 16 ∷ 0x20 ∷ [])) (0 ∷ 1 ∷ 1 ∷ 0 ∷ []) tt ∷
+    row "one block thrice from page cache" (counts (0 ∷ 1 ∷ 16 ∷ 0x10 ∷ 0 ∷ 2 ∷ 16 ∷ 0x11 ∷ 0 ∷ 3 ∷ 16 ∷ 0x1f ∷ [])) (0 ∷ 1 ∷ 0 ∷ 1 ∷ []) tt ∷
+    row "one block again after another" (counts (0 ∷ 1 ∷ 16 ∷ 0x20 ∷ 0 ∷ 2 ∷ 17 ∷ 0x20 ∷ 0 ∷ 3 ∷ 16 ∷ 0x20 ∷ [])) (0 ∷ 2 ∷ 2 ∷ 0 ∷ []) tt ∷
+    row "one block at two origins" (counts (0 ∷ 1 ∷ 16 ∷ 0x20 ∷ 1 ∷ 1 ∷ 16 ∷ 0x20 ∷ [])) (0 ∷ 2 ∷ 2 ∷ 0 ∷ []) tt ∷
+    row "two blocks at one origin" (counts (0 ∷ 1 ∷ 16 ∷ 0x20 ∷ 0 ∷ 2 ∷ 17 ∷ 0x20 ∷ [])) (0 ∷ 2 ∷ 2 ∷ 0 ∷ []) tt ∷
+    row "cache then platter" (counts (0 ∷ 1 ∷ 16 ∷ 0x10 ∷ 0 ∷ 2 ∷ 16 ∷ 0x20 ∷ [])) (0 ∷ 1 ∷ 1 ∷ 0 ∷ []) tt ∷
+    row "platter then cache" (counts (0 ∷ 1 ∷ 16 ∷ 0x20 ∷ 0 ∷ 2 ∷ 16 ∷ 0x10 ∷ [])) (0 ∷ 1 ∷ 1 ∷ 0 ∷ []) tt ∷
+    row "not read, then from the platter" (counts (0 ∷ 1 ∷ 16 ∷ 0x0f ∷ 0 ∷ 2 ∷ 16 ∷ 0x20 ∷ [])) (0 ∷ 1 ∷ 1 ∷ 0 ∷ []) tt ∷
+    row "from the platter, then not read" (counts (0 ∷ 1 ∷ 16 ∷ 0x20 ∷ 0 ∷ 2 ∷ 16 ∷ 0x0f ∷ [])) (0 ∷ 1 ∷ 1 ∷ 0 ∷ []) tt ∷
+    row "no record" (counts []) (0 ∷ 0 ∷ 0 ∷ 0 ∷ []) tt ∷
+    row "a verdict that is no byte" (verdict 256) (1 ∷ 0 ∷ 0 ∷ 0 ∷ []) tt ∷
+    row "a list of three words" (counts (0 ∷ 1 ∷ 16 ∷ [])) (1 ∷ 0 ∷ 0 ∷ 0 ∷ []) tt ∷
     row "document 01's journal, printed" (replays example)
     (ascii "N 2 STEPS 6 REFUSED 0\n0 S 8 8 K 7 6 L 1\n1 S 8 8 K 7 6 L 1\n") tt ∷
     row "the same with a delivery before its last line" (replays told)

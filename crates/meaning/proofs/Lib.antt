@@ -19,6 +19,7 @@ pub mod Demand3
 pub mod AccountCorollaries
 pub mod AccountRises
 pub mod AccountJournals
+pub mod PairLaws
 pub mod VerdictLaws
 pub mod VerdictTheorems
 pub mod ClassRanges

@@ -1,22 +1,49 @@
--- Laws of the verdict count: the classes, the refusals, and the log of a node. Document 01, "Verdict count".
+-- Laws of the verdict count: the classes, the counts record by record, the refusals, and the log of a node. Document 01, "Verdict count";
+-- document 02, T-05.
 use mathlib.Core.Path.{_≡_, refl, sym, ap, _∙_}
-use mathlib.Core.Bool.{Bool, true, false, not}
+use mathlib.Core.Bool.{Bool, true, false, not, _&&_, cond}
 use mathlib.Core.List.{List, [], _∷_}
-use Prim.Native.Nat.{ℕ, _*_, _/_, _%_, _<_, _≤_}
+use Prim.Native.Nat.{ℕ, suc, _+_, _-_, _*_, _/_, _%_, _<_, _≤_}
 use native.Mathlib.Omega.{arith}
 use borrow.Author.Tests.{le-ltb, lt-ltb, eq-eqb, ne-eqb, le-leb, lt-leb}
 use lib.ListN.{length, take, drop, length-take, length-drop}
-use lib.Seq.{getD-take}
+use lib.Seq.{getD-take, drop-cons}
 use lib.Dec.{leb, ltb}
 use Rattle.meaning.specs.declared.Record.{Record}
 use Rattle.meaning.specs.declared.Class.the-variants.{NotRead, PageCache, PlatterGood, PlatterBad, Repaired, Reserved}
 use Rattle.meaning.specs.declared.Count.{Count}
-use Rattle.meaning.specs.declared.Count.the-variants.{Refused}
-use Rattle.meaning.specs.Rows.{every, all, recordAt, records}
+use Rattle.meaning.specs.declared.Count.the-variants.{Counted, Refused}
+use Rattle.meaning.specs.Rows.{every, all, keep, recordAt, records}
 use Rattle.meaning.specs.Refusals.{test, first}
 use Rattle.meaning.specs.Table.{logMost, logAt, part, count, held, node, sound, recordSound}
-use Rattle.meaning.specs.Verdicts.{classOf, countRefusal, verdictCount, nodeCount}
-use Rattle.meaning.proofs.RowLaws.{and-right, and-both, and-left, every-records, records-agree}
+use Rattle.meaning.specs.Verdicts.{
+  classOf,
+  isScrubbed,
+  isTouched,
+  pairOf,
+  among,
+  different,
+  pairsOf,
+  scrubbed,
+  touched,
+  gap,
+  counted,
+  countRefusal,
+  verdictCount,
+  nodeCount,
+}
+use Rattle.meaning.proofs.RowLaws.{
+  noRecord,
+  and-right,
+  and-both,
+  and-left,
+  length-keep,
+  length-records,
+  getD-records,
+  every-records,
+  records-agree,
+}
+use Rattle.meaning.proofs.PairLaws.{pairs-more, pairs-few}
 use Rattle.meaning.proofs.TableLaws.{sound-facts}
 
 -- The class of a byte, found by its upper end where the lower ones were passed
@@ -43,6 +70,51 @@ class-5 v l h = rw (lt-leb v 0x0f (omega arith), lt-leb v 0x1f (omega arith), lt
 pub class-6 : (v : ℕ) → 0x4f < v → Reserved ≡ classOf v
 unfolding classOf
 class-6 v l = rw (lt-leb v 0x0f (omega arith), lt-leb v 0x1f (omega arith), lt-leb v 0x2f (omega arith), lt-leb v 0x3f (omega arith), lt-leb v 0x4f l)
+
+-- The counts, from the last record to the first: one more for a record that passes, if none of those after it that pass has its pair.
+pub scrubbed-none : scrubbed [] ≡ 0
+unfolding scrubbed pairsOf different keep
+scrubbed-none = refl
+
+pub touched-none : touched [] ≡ 0
+unfolding touched pairsOf different keep
+touched-none = refl
+
+pub scrubbed-more : (r : Record) (rs : List Record)
+    → scrubbed (r ∷ rs) ≡ scrubbed rs + cond (isScrubbed (classOf (r .verdict)) && not (among (pairOf r) (pairsOf isScrubbed rs))) 1 0
+unfolding scrubbed
+scrubbed-more = pairs-more isScrubbed
+
+pub touched-more : (r : Record) (rs : List Record)
+    → touched (r ∷ rs) ≡ touched rs + cond (isTouched (classOf (r .verdict)) && not (among (pairOf r) (pairsOf isTouched rs))) 1 0
+unfolding touched
+touched-more = pairs-more isTouched
+
+-- there are no more of them than records
+pub scrubbed-few : (rs : List Record) → scrubbed rs ≤ length rs
+unfolding scrubbed
+scrubbed-few rs =
+    let a = pairs-few isScrubbed rs in
+    let b = length-keep (λ (r : Record). isScrubbed (classOf (r .verdict))) rs in
+    omega arith
+
+pub touched-few : (rs : List Record) → touched rs ≤ length rs
+unfolding touched
+touched-few rs =
+    let a = pairs-few isTouched rs in
+    let b = length-keep (λ (r : Record). isTouched (classOf (r .verdict))) rs in
+    omega arith
+
+-- the records of a list of words from the i-th on: the i-th, and those after it
+pub records-rest : (k : ℕ) (w : List ℕ) (i : ℕ) → i < k → drop i (records k w) ≡ recordAt w i ∷ drop (suc i) (records k w)
+records-rest k w i below =
+    let l = length-records k w in
+    drop-cons (records k w) i noRecord (omega arith) ∙ ap (λ (r : Record). r ∷ drop (suc i) (records k w)) (getD-records k w i below)
+
+-- the answer of three numbers
+pub counted-is : (rs : List Record) (s t g : ℕ) → s ≡ scrubbed rs → t ≡ touched rs → g ≡ s - t → Counted s t g ≡ counted rs
+unfolding counted gap
+counted-is rs s t g es et eg = rw (← es, ← et, eg)
 
 module _ (w : List ℕ) where
   -- the answer: a list that is no whole records, and one that is too long

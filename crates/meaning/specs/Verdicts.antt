@@ -1,6 +1,6 @@
--- The verdict count. Document 01, "Verdict count".
-use mathlib.Core.Bool.{Bool, true, false, not, cond}
-use mathlib.Core.List.{List, [], _∷_}
+-- The verdict count. Document 01, "Verdict count"; document 02, T-05.
+use mathlib.Core.Bool.{Bool, true, false, not, _&&_, _||_, cond}
+use mathlib.Core.List.{List, [], _∷_, map}
 use Prim.Native.Nat.{ℕ, zero, suc, _-_, _*_, _/_, _%_}
 use lib.ListN.{length}
 use lib.Dec.{leb, ltb, eqb}
@@ -23,7 +23,7 @@ classOf v =
     (cond (leb v 0x3f) PlatterBad
     (cond (leb v 0x4f) Repaired Reserved))))
 
--- "Scrubbed counts records of 10–4F, touched those of 20–4F."
+-- "Scrubbed" is 10–4F, "touched" 20–4F
 abbrev pub isScrubbed : Class → Bool
 isScrubbed NotRead = false
 isScrubbed PageCache = true
@@ -40,18 +40,43 @@ isTouched PlatterBad = true
 isTouched Repaired = true
 isTouched Reserved = false
 
+-- T-05: "different pairs of origin and block". A record's pair, and whether a pair stands in a list
+pub record Pair : Type 0 where
+  pub origin : ℕ
+  pub block : ℕ
+
+abbrev pub pairOf : Record → Pair
+pairOf r = record { origin = r .origin; block = r .block }
+
+abbrev pub samePair : Pair → Pair → Bool
+samePair x y = eqb (x .origin) (y .origin) && eqb (x .block) (y .block)
+
+unfoldable pub among : Pair → List Pair → Bool
+among x [] = false
+among x (y ∷ ys) = samePair x y || among x ys
+
+-- pairs without repetition
+unfoldable pub different : List Pair → List Pair
+different [] = []
+different (x ∷ xs) = cond (among x xs) (different xs) (x ∷ different xs)
+
+-- the different pairs "with at least one record of that class"
+unfoldable pub pairsOf : (Class → Bool) → List Record → List Pair
+pairsOf f rs = different (map pairOf (keep (λ r. f (classOf (r .verdict))) rs))
+
+-- how many there are
 unfoldable pub scrubbed : List Record → ℕ
-scrubbed rs = length (keep (λ r. isScrubbed (classOf (r .verdict))) rs)
+scrubbed rs = length (pairsOf isScrubbed rs)
 
 unfoldable pub touched : List Record → ℕ
-touched rs = length (keep (λ r. isTouched (classOf (r .verdict))) rs)
+touched rs = length (pairsOf isTouched rs)
 
 -- "The gap is the difference."
 unfoldable pub gap : List Record → ℕ
 gap rs = scrubbed rs - touched rs
 
 unfoldable pub counted : List Record → Count
-counted rs = Counted (scrubbed rs) (touched rs)
+counted rs = Counted (scrubbed rs) (touched rs) (gap rs)
 
 -- "Over a lent list of 0 to 64 records of four words (else, or with a verdict above 255, refusal 1 and zero counts)"
 unfoldable pub countRefusal : List ℕ → ℕ
@@ -74,8 +99,8 @@ unfoldable pub nodeCount : List ℕ → ℕ → Count
 nodeCount t p = countIs (first (test 1 (not (sound t)) ∷ test 3 (absent t p) ∷ [])) (node t p .log)
 
 abbrev pub countValues : Count → List ℕ
-countValues (Counted s t) = 0 ∷ s ∷ t ∷ []
-countValues (Refused k) = k ∷ 0 ∷ 0 ∷ []
+countValues (Counted s t g) = 0 ∷ s ∷ t ∷ g ∷ []
+countValues (Refused k) = k ∷ 0 ∷ 0 ∷ 0 ∷ []
 
 -- Document 01's values of each class: its first and its last verdict byte
 abbrev pub classRange : Class → List ℕ

@@ -128,6 +128,12 @@ pub enum Class {
 
 // What a verdict count answers.
 pub enum Count {
-    Counted { scrubbed: u32, touched: u32 },
-    Refused { number: u32 },
+    Counted {
+        scrubbed: u32,
+        touched: u32,
+        gap: u32,
+    },
+    Refused {
+        number: u32,
+    },
 }

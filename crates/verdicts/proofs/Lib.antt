@@ -1,2 +1,2 @@
 pub mod OneReply
-pub mod Tally
+pub mod CountLaws

@@ -1,14 +1,17 @@
-// The verdict count. Document 01, "Verdict count"; the definitions are those of specs/Verdicts.antt.
+// The verdict count. Document 01, "Verdict count"; document 02, T-05; the definitions are those of specs/Verdicts.antt.
 ghost use mathlib.Core.Path.{_≡_};
-ghost use mathlib.Core.Bool.{true, cond};
+ghost use mathlib.Core.Bool.{true};
 ghost use Prim.Native.Nat.{_+_, _*_, _%_, _<_, _≤_};
 ghost use lib.ListN.{length};
+ghost use Rattle.meaning.specs.Rows.{recordAt};
 ghost use Rattle.meaning.specs.Table.{tableWords, nodesMost, logMost, held, sound};
 ghost use Rattle.meaning.specs.Verdicts.{classOf, isScrubbed, isTouched, verdictCount, nodeCount};
+ghost use Rattle.pairs.specs.Chains.{Kept, since, tally};
 use layout::LOG_WORDS;
 use layout::RECORD_WORDS;
 use meaning::Class;
 use meaning::Count;
+use pairs::note;
 
 // "00–0F not read; 10–1F answered from page cache; 20–2F read from platter, good; 30–3F read from platter, bad;
 // 40–4F repaired and read back; 50–FF reserved"
@@ -25,55 +28,75 @@ pub fn class_of(v: u8) -> Class
     }
 }
 
-// "Scrubbed counts records of 10–4F": by one range, not through the class, so that a loop over records has no branch for one.
-fn is_scrubbed(v: u32) -> bool
-    ensures { λ r. ⌜ r ≡ isScrubbed (classOf v) ⌝ }
+// "Scrubbed" is 10–4F.
+fn is_scrubbed(c: Class) -> bool
+    ensures { λ r. ⌜ r ≡ isScrubbed c ⌝ }
 {
-    match v {
-        0x10..=0x4f => true,
-        _ => false,
+    match c {
+        Class::NotRead => false,
+        Class::PageCache => true,
+        Class::PlatterGood => true,
+        Class::PlatterBad => true,
+        Class::Repaired => true,
+        Class::Reserved => false,
     }
 }
 
-// "touched those of 20–4F"
-fn is_touched(v: u32) -> bool
-    ensures { λ r. ⌜ r ≡ isTouched (classOf v) ⌝ }
+// "touched" is 20–4F.
+fn is_touched(c: Class) -> bool
+    ensures { λ r. ⌜ r ≡ isTouched c ⌝ }
 {
-    match v {
-        0x20..=0x4f => true,
-        _ => false,
+    match c {
+        Class::NotRead => false,
+        Class::PageCache => false,
+        Class::PlatterGood => true,
+        Class::PlatterBad => true,
+        Class::Repaired => true,
+        Class::Reserved => false,
     }
 }
 
-// A count with one more, if there is one more.
-fn with(n: u32, more: bool) -> u32
-    requires { ⌜ n < logMost ⌝ }
-    ensures { λ r. ⌜ r ≡ cond more (n + 1) n ⌝ }
+// What the record of a row adds to both counts, over those from the next row on, and the slots with its pair.
+fn count_row(words: &[u32], heads: &mut [u8], links: &mut [u8], row: usize, v: u8) -> u32
+    requires { ⌜ (4 * row + 4 ≤ length (now words)) × (v ≡ recordAt (now words) row .verdict % 256) × Kept (now words) (row + 1) (now heads) (now links) ⌝ }
+    ensures { λ n. ⌜ n + tally (since (now (words .entry)) (row + 1)) ≡ tally (since (now (words .entry)) row) ⌝ }
+    ensures { λ _. ⌜ Kept (now (words .entry)) row (now (heads .exit)) (now (links .exit)) ⌝ }
 {
-    if more { n + 1 } else { n }
+    let c = class_of(v);
+    if !is_scrubbed(c) {
+        return 0;
+    }
+    note(words, heads, links, row, is_touched(c))
 }
 
 // The count over whole records, in one pass from the last to the first. It has no early end: the verdicts' bits are gathered, and a verdict is
-// above 255 where what they make is.
+// above 255 where what they make is. Both counts are kept in one number, since neither is above 64.
 fn count_records(words: &[u32]) -> Count
     requires { ⌜ (length (now words) % 4 ≡ 0) × (length (now words) ≤ 4 * logMost) ⌝ }
     ensures { λ r. ⌜ r ≡ verdictCount (now (words .entry)) ⌝ }
 {
-    let mut scrubbed: u32 = 0;
-    let mut touched: u32 = 0;
+    let mut heads = [0u8; 64];
+    let mut links = [0u8; 64];
+    let mut both: u32 = 0;
     let mut seen: u32 = 0;
-    let mut at = words.len();
-    while 0 < at {
-        at -= RECORD_WORDS;
-        let v = words[at + 3];
+    let mut row = words.len() / RECORD_WORDS;
+    while 0 < row {
+        row -= 1;
+        let v = words[RECORD_WORDS * row + 3];
         seen = seen | v;
-        scrubbed = with(scrubbed, is_scrubbed(v));
-        touched = with(touched, is_touched(v));
+        both += count_row(words, &mut heads, &mut links, row, (v % 256) as u8);
     }
     if 255 < seen {
         return Count::Refused { number: 1 };
     }
-    Count::Counted { scrubbed, touched }
+    let scrubbed = both % 128;
+    let touched = both / 128;
+    let gap = scrubbed - touched;
+    Count::Counted {
+        scrubbed,
+        touched,
+        gap,
+    }
 }
 
 // "Over a lent list of 0 to 64 records of four words (else, or with a verdict above 255, refusal 1 and zero counts)"

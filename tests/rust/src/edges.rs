@@ -4,7 +4,7 @@
 use crate::account::Account;
 use crate::layout::{NODES, WORDS};
 use crate::library::{Calls, Library, TEXT};
-use crate::lines::LINE_ANSWERS;
+use crate::lines::{COUNT_ANSWERS, LINE_ANSWERS};
 use crate::model::{count, fresh, read, replay, Action, Record, Table};
 use crate::steps::lent;
 
@@ -205,18 +205,38 @@ fn all_lines(library: &mut Library) -> Result<(), String> {
     Ok(())
 }
 
-/// A verdict with its place in the two counts.
-const VERDICTS: [(u32, u32, u32); 6] = [(0x0F, 0, 0), (0x10, 1, 0), (0x1F, 1, 0), (0x20, 1, 1), (0x4F, 1, 1), (0x50, 0, 0)];
+/// Records, each an origin, a block and a verdict, with what they count: scrubbed, touched and the gap.
+type Counted = (&'static str, &'static [[u32; 3]], [u32; 3]);
+const VERDICTS: [Counted; 18] = [
+    ("verdict 0F", &[[0, 2, 0x0F]], [0, 0, 0]),
+    ("verdict 10", &[[0, 2, 0x10]], [1, 0, 1]),
+    ("verdict 1F", &[[0, 2, 0x1F]], [1, 0, 1]),
+    ("verdict 20", &[[0, 2, 0x20]], [1, 1, 0]),
+    ("verdict 4F", &[[0, 2, 0x4F]], [1, 1, 0]),
+    ("verdict 50", &[[0, 2, 0x50]], [0, 0, 0]),
+    ("no record", &[], [0, 0, 0]),
+    ("one block thrice", &[[0, 2, 0x20], [0, 2, 0x20], [0, 2, 0x20]], [1, 1, 0]),
+    ("one block thrice, from page cache", &[[0, 2, 0x10], [0, 2, 0x11], [0, 2, 0x1F]], [1, 0, 1]),
+    ("one block at two origins", &[[0, 2, 0x20], [1, 2, 0x20]], [2, 2, 0]),
+    ("two blocks of one origin", &[[0, 2, 0x20], [0, 3, 0x20]], [2, 2, 0]),
+    ("cache, then platter", &[[0, 2, 0x10], [0, 2, 0x20]], [1, 1, 0]),
+    ("platter, then cache", &[[0, 2, 0x20], [0, 2, 0x10]], [1, 1, 0]),
+    ("cache, then the platter of another origin", &[[0, 2, 0x10], [1, 2, 0x20]], [2, 1, 1]),
+    ("not read, then platter", &[[0, 2, 0x00], [0, 2, 0x30]], [1, 1, 0]),
+    ("platter, then reserved", &[[0, 2, 0x30], [0, 2, 0x50]], [1, 1, 0]),
+    ("another block between", &[[0, 2, 0x20], [0, 3, 0x10], [0, 2, 0x20]], [2, 1, 1]),
+    ("origins that are no nodes", &[[16, 2, 0x20], [0, 2, 0x20], [u32::MAX, 2, 0x10]], [3, 2, 1]),
+];
 
 fn all_verdicts(library: &mut Library) -> Result<(), String> {
-    for (verdict, scrubbed, touched) in VERDICTS {
-        let list = [0, 1, 2, verdict];
+    for (name, records, should) in VERDICTS {
+        let list: Vec<u32> = records.iter().zip(1..).flat_map(|(&[origin, block, verdict], timestamp)| [origin, timestamp, block, verdict]).collect();
         let mut calls = Calls::default();
         calls.count(&list);
         let mut answers = library.run(&calls).ok_or("the library was killed")?;
-        let is = answers.words(3);
-        if is != [0, scrubbed, touched] || count(&list) != Ok((scrubbed, touched)) {
-            return Err(format!("verdict {verdict:02X}: the library says {is:?}"));
+        let is = answers.words(COUNT_ANSWERS);
+        if is[..4] != [0, should[0], should[1], should[2]] || count(&list) != Ok(should) {
+            return Err(format!("the count, {name}: it should say {should:?}; the library says {is:?}, the model {:?}", count(&list)));
         }
     }
     Ok(())

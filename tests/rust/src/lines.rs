@@ -2,7 +2,7 @@
 
 use crate::layout::COUNTS;
 use crate::library::{Answers, Calls, Library};
-use crate::model::{count, fields, frame, read, start_frame, Action, Fault, Frame};
+use crate::model::{count, fields, frame, read, records, start_frame, Action, Fault, Frame};
 use crate::random::Random;
 use crate::reached::Reached;
 use crate::shrink::shortest;
@@ -17,6 +17,9 @@ const LISTS: usize = 16;
 
 /// The answers to one line.
 pub const LINE_ANSWERS: usize = 23;
+
+/// The answers to one count of a list: the number, scrubbed, touched, the gap, and whether the words stayed.
+pub const COUNT_ANSWERS: usize = 5;
 
 pub fn action(rng: &mut Random) -> Action {
     let any = |rng: &mut Random| match rng.below(4) {
@@ -142,7 +145,7 @@ fn compare_frame(what: Frame, room: usize, answers: &mut Answers, reached: &mut 
     if is == should {
         Ok(())
     } else {
-        Err(format!("refusal, length and bytes: the library says {is:?}, document 01 {should:?}"))
+        Err(format!("refusal, length and bytes: the library says {is:?}, the documents {should:?}"))
     }
 }
 
@@ -156,13 +159,50 @@ fn a_frame(rng: &mut Random) -> Frame {
     }
 }
 
+/// How the pairs of a list are chosen: all at random; few origins and few blocks, so that most stand more than once; blocks one after
+/// another, as a scrubber reads them; blocks that differ in high bits only; one block in all, or at every origin; origins that are no nodes.
+fn a_pair(rng: &mut Random, style: u32, row: u32) -> (u32, u32) {
+    match style {
+        0 => (rng.word(), rng.word()),
+        1 | 2 => (rng.below(2), rng.below(4)),
+        3 => (rng.below(3), row / 3),
+        4 => (3, 70_000 + row),
+        5 => (rng.below(16), rng.below(4) << 30),
+        6 => (9, 77),
+        7 => (row, 77),
+        8 => (rng.among(&[0, 15, 16, 17, 32, 256, 1 << 31, u32::MAX]), rng.below(3)),
+        9 => (rng.below(2) * u32::MAX, rng.below(2) * u32::MAX),
+        _ => (rng.below(16), rng.below(40)),
+    }
+}
+
+/// A verdict: at the edges of the classes, of one class, scrubbed, or any.
+fn a_verdict(rng: &mut Random, style: u32) -> u32 {
+    match style {
+        0 => rng.among(&[0x0F, 0x10, 0x1F, 0x20, 0x4F, 0x50]),
+        1 => 0x10,
+        2 => 0x20 + rng.below(0x30),
+        3 => rng.among(&[0x10, 0x10, 0x10, 0x20]),
+        4 => rng.below(256),
+        _ => rng.below(0x60),
+    }
+}
+
 fn a_list(rng: &mut Random) -> Vec<u32> {
     let many = match rng.below(8) {
         0 => rng.below(300),
         1 => rng.among(&[0, 4, 252, 256, 257, 260]),
+        2 | 3 => 256,
+        4 => 4 * rng.below(5),
         _ => 4 * rng.below(65),
     };
-    let mut list: Vec<u32> = (0..many).map(|i| if i % 4 == 3 { rng.below(if i % 8 == 3 { 256 } else { 96 }) } else { rng.word() }).collect();
+    let (pairs, verdicts) = (rng.below(12), rng.below(8));
+    let mut list = Vec::new();
+    for row in 0..many.div_ceil(4) {
+        let (origin, block) = a_pair(rng, pairs, row);
+        list.extend([origin, rng.word(), block, a_verdict(rng, verdicts)]);
+    }
+    list.truncate(many as usize);
     if many > 3 && rng.percent(15) {
         let at = rng.below(many / 4) as usize * 4 + 3;
         list[at] = rng.among(&[256, 255, 0x110, u32::MAX]);
@@ -171,13 +211,16 @@ fn a_list(rng: &mut Random) -> Vec<u32> {
 }
 
 fn compare_list(list: &[u32], answers: &mut Answers, reached: &mut Reached) -> Result<(), String> {
-    let is = [answers.word(), answers.word(), answers.word()];
-    let should = count(list).map_or_else(|refusal| [refusal, 0, 0], |(scrubbed, touched)| [0, scrubbed, touched]);
+    let is = answers.words(COUNT_ANSWERS);
+    let should = count(list).map_or_else(|refusal| [refusal, 0, 0, 0, 1], |c| [0, c[0], c[1], c[2], 1]);
     reached.add(if should[0] == 0 { "count 0" } else { "count 1" });
+    if should[0] == 0 {
+        reached.counted("count", &records(list));
+    }
     if is == should {
         Ok(())
     } else {
-        Err(format!("refusal, scrubbed, touched: the library says {is:?}, document 01 {should:?}"))
+        Err(format!("refusal, scrubbed, touched, gap, the words as they were: the library says {is:?}, the documents {should:?}"))
     }
 }
 
@@ -206,7 +249,9 @@ pub fn seed(library: &mut Library, seed: u64, reached: &mut Reached) -> Result<u
         compare_frame(*frame, *room, &mut answers, reached).map_err(|fault| format!("seed {seed}: frame {frame:?} with room {room}: {fault}"))?;
     }
     for list in &lists {
-        compare_list(list, &mut answers, reached).map_err(|fault| format!("seed {seed}: count of {list:?}: {fault}"))?;
+        if compare_list(list, &mut answers, reached).is_err() {
+            return Err(told_list(library, seed, list));
+        }
     }
     assert!(answers.done());
     Ok(LINES)
@@ -221,4 +266,17 @@ fn told_line(library: &mut Library, seed: u64, line: &[u8]) -> String {
     };
     let short = shortest(line, &mut |line| try_line(line).is_err(), &|c| if *c == b'0' { Vec::new() } else { vec![b'0'] });
     format!("seed {seed}: {}\nthe shortest failing line: \"{}\"", try_line(&short).unwrap_err(), short.escape_ascii())
+}
+
+fn told_list(library: &mut Library, seed: u64, list: &[u32]) -> String {
+    let mut nowhere = Reached::default();
+    let mut try_list = |list: &[u32]| {
+        let mut calls = Calls::default();
+        calls.count(list);
+        library.run(&calls).map_or(Err("the library was killed".into()), |mut answers| compare_list(list, &mut answers, &mut nowhere))
+    };
+    let rows: Vec<&[u32]> = list.chunks(4).collect();
+    let short = shortest(&rows, &mut |rows| try_list(&rows.concat()).is_err(), &|_| Vec::new());
+    let failing = try_list(&short.concat()).err().unwrap_or_else(|| "not again".into());
+    format!("seed {seed}: the count of {} words: {failing}\nthe shortest failing list, origin, timestamp, block, verdict: {short:?}", list.len())
 }

@@ -4,6 +4,7 @@
 #![allow(dead_code)]
 
 use crate::layout::{COUNTS, JOURNAL, LIST, NODES, RECORD, ROOM, WORDS};
+use std::collections::BTreeSet;
 use std::fmt::Write as _;
 
 /// One finding: a row of a log.
@@ -268,13 +269,23 @@ impl Table {
     }
 }
 
-/// Scrubbed and touched over a list of words, or refusal 1.
-pub fn count(words: &[u32]) -> Result<(u32, u32), u32> {
+/// The records of a list of words, those behind the last whole one left out.
+pub fn records(words: &[u32]) -> Vec<Record> {
+    words.chunks_exact(RECORD).map(|r| Record { origin: r[0], timestamp: r[1], block: r[2], verdict: r[3] }).collect()
+}
+
+/// Scrubbed, touched and the gap over a list of words, or refusal 1: "different pairs of origin and block with at least one
+/// record of that class"; "the gap is the difference".
+pub fn count(words: &[u32]) -> Result<[u32; 3], u32> {
     if words.len() % RECORD != 0 || words.len() > RECORD * ROOM || words.chunks(RECORD).any(|r| r[3] > 255) {
         return Err(1);
     }
-    let among = |low, high| words.chunks(RECORD).filter(|r| r[3] >= low && r[3] <= high).count() as u32;
-    Ok((among(0x10, 0x4F), among(0x20, 0x4F)))
+    let different = |low, high| {
+        let pairs: BTreeSet<(u32, u32)> = words.chunks(RECORD).filter(|r| (low..=high).contains(&r[3])).map(|r| (r[0], r[2])).collect();
+        pairs.len() as u32
+    };
+    let (scrubbed, touched) = (different(0x10, 0x4F), different(0x20, 0x4F));
+    Ok([scrubbed, touched, scrubbed - touched])
 }
 
 /// The bytes of a frame with their check byte, as a line with its LF.

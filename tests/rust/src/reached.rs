@@ -9,7 +9,7 @@ use std::collections::BTreeMap;
 pub struct Reached(BTreeMap<String, u64>);
 
 /// Everything that a run must have reached at least once.
-const MUST: [&str; 119] = [
+const MUST: [&str; 137] = [
     "fresh 0",
     "fresh 1",
     "write 0",
@@ -70,6 +70,24 @@ const MUST: [&str; 119] = [
     "count_node 0",
     "count_node 1",
     "count_node 3",
+    "count, a block thrice",
+    "count, one block at two origins",
+    "count, page cache then platter",
+    "count, platter then page cache",
+    "count, not read then scrubbed",
+    "count, a block read again after another",
+    "count, every class",
+    "count, an origin of 16 or more",
+    "count, 64 different blocks",
+    "count, 64 records of one block",
+    "count_node, a block thrice",
+    "count_node, one block at two origins",
+    "count_node, page cache then platter",
+    "count_node, platter then page cache",
+    "count_node, not read then scrubbed",
+    "count_node, a block read again after another",
+    "count_node, every class",
+    "count_node, 64 records",
     "line 0",
     "line 11",
     "line 12",
@@ -194,6 +212,34 @@ impl Reached {
         self.when(words > RECORD * due.len(), "deliver into a longer list");
         self.when(mark == smallest, "deliver, the mark at the smallest entry");
         self.when(mark > smallest, "deliver, the mark above the smallest entry");
+    }
+
+    /// A count that was not refused, with the records that it was over. Records of one pair of origin and block are of one block.
+    pub fn counted(&mut self, call: &str, records: &[Record]) {
+        let pair = |r: &Record| (r.origin, r.block);
+        let class = |r: &Record| (r.verdict >> 4).min(5);
+        let scrubbed: Vec<Record> = records.iter().filter(|r| (1..=4).contains(&class(r))).copied().collect();
+        let mut blocks: BTreeMap<(u32, u32), Vec<u32>> = BTreeMap::new();
+        for r in &scrubbed {
+            blocks.entry(pair(r)).or_default().push(class(r));
+        }
+        let follows = |first: &dyn Fn(u32) -> bool, then: &dyn Fn(u32) -> bool| {
+            records.iter().enumerate().any(|(i, a)| first(class(a)) && records[i + 1..].iter().any(|b| pair(a) == pair(b) && then(class(b))))
+        };
+        let (cache, platter) = (|class| class == 1, |class| (2..=4).contains(&class));
+        let apart = |i: usize| scrubbed[..i].iter().any(|r| pair(r) == pair(&scrubbed[i])) && pair(&scrubbed[i - 1]) != pair(&scrubbed[i]);
+        let mut when = |it_is: bool, what: &str| self.when(it_is, &format!("{call}, {what}"));
+        when(blocks.values().any(|classes| classes.len() >= 3), "a block thrice");
+        when(blocks.keys().any(|&(o, b)| blocks.keys().any(|&(other, same)| same == b && other != o)), "one block at two origins");
+        when(follows(&cache, &platter), "page cache then platter");
+        when(follows(&platter, &cache), "platter then page cache");
+        when(follows(&|class| class == 0, &|class| (1..=4).contains(&class)), "not read then scrubbed");
+        when((1..scrubbed.len()).any(apart), "a block read again after another");
+        when((0..=5).all(|c| records.iter().any(|r| class(r) == c)), "every class");
+        when(scrubbed.iter().any(|r| r.origin >= 16), "an origin of 16 or more");
+        when(blocks.len() == 64, "64 different blocks");
+        when(scrubbed.len() == 64 && blocks.len() == 1, "64 records of one block");
+        when(records.len() == 64, "64 records");
     }
 
     pub fn when(&mut self, it_is: bool, what: &str) {

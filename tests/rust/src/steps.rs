@@ -4,6 +4,7 @@
 use crate::account::Account;
 use crate::layout::{place, record_at, ACKNOWLEDGEMENTS, COUNTS, HELD, LIST, LOGS, MARKS, NODES, RECORD, ROOM, SUMMARIES, WORDS};
 use crate::library::{Calls, Library, BATCH};
+use crate::lines::COUNT_ANSWERS;
 use crate::model::{count, fresh, Action, Record, Table};
 use crate::random::Random;
 use crate::reached::Reached;
@@ -328,14 +329,14 @@ fn delivered(table: &mut Table, node: u8, list: &mut [u32]) -> [u32; 3] {
 }
 
 /// What the verdict count over one node's log, and a look at the table, must say.
-fn counted(table: Option<&Table>, node: u8) -> [u32; 3] {
-    let Some(t) = table.filter(|t| t.sound()) else { return [1, 0, 0] };
+fn counted(table: Option<&Table>, node: u8) -> [u32; COUNT_ANSWERS] {
+    let Some(t) = table.filter(|t| t.sound()) else { return [1, 0, 0, 0, 1] };
     if u32::from(node) >= t.count {
-        return [3, 0, 0];
+        return [3, 0, 0, 0, 1];
     }
     let words: Vec<u32> = t.log(node.into()).iter().flat_map(|r| [r.origin, r.timestamp, r.block, r.verdict]).collect();
-    let (scrubbed, touched) = count(&words).unwrap();
-    [0, scrubbed, touched]
+    let [scrubbed, touched, gap] = count(&words).unwrap();
+    [0, scrubbed, touched, gap, 1]
 }
 
 fn looked(table: Option<&Table>, node: u8, origin: u8, index: u32, word: u32) -> [u32; 5] {
@@ -396,7 +397,10 @@ impl Run<'_> {
             Event::CountNode(node) => {
                 let said = counted(self.table.as_ref(), node);
                 self.reached.add(&format!("count_node {}", said[0]));
-                same("the count", &[answers.word(), answers.word(), answers.word()], &said)?;
+                if let (0, Some(table)) = (said[0], &self.table) {
+                    self.reached.counted("count_node", table.log(node.into()));
+                }
+                same("the count", answers.words(COUNT_ANSWERS), &said)?;
             }
             Event::Look { node, origin, index, word } => {
                 let said = looked(self.table.as_ref(), node, origin, index, word);
@@ -517,7 +521,7 @@ fn same(what: &str, is: &[u32], should: &[u32]) -> Result<(), String> {
     if is == should {
         Ok(())
     } else {
-        Err(format!("{what}: the library says {is:?}, document 01 {should:?} (4294967295: not reported)"))
+        Err(format!("{what}: the library says {is:?}, the documents {should:?} (4294967295: not reported)"))
     }
 }
 
@@ -526,7 +530,7 @@ fn words(is: &[u32], should: &[u32]) -> Result<(), String> {
         return Ok(());
     }
     let at = (0..should.len()).find(|&i| is[i] != should[i]).unwrap();
-    Err(format!("word {at} of the table ({}): the library has {}, document 01 {}", place(at), is[at], should[at]))
+    Err(format!("word {at} of the table ({}): the library has {}, the documents {}", place(at), is[at], should[at]))
 }
 
 /// Runs a scenario on the model and the library; the answer is the event that differs and how.

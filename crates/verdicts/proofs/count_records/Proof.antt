@@ -1,71 +1,106 @@
--- `verdicts::count_records`. The invariant: the records before place `at` are yet to be counted, and with their counts the counts are those of the definition.
-use mathlib.Core.Path.{_≡_, refl}
-use Prim.Native.Nat.{_/_, _%_, _≤_}
-use native.Mathlib.Omega.{arith}
+-- `verdicts::count_records`. The invariant: the records from `row` on are counted.
 use borrow.Author.Needs.{needs}
+use mathlib.Core.Path.{_≡_, ap, subst}
+use Prim.Native.Nat.{ℕ, _+_, _-_, _*_, _%_, _≤_}
+use native.Mathlib.Omega.{arith}
 use lib.ListN.{length}
-use Rattle.verdicts.proofs.Tally.{Tallied, tallied-none, tallied-more, tallied-all, count-wide, count-all}
+use Rattle.meaning.specs.Table.{logMost}
+use Rattle.pairs.specs.Chains.{Kept}
+use Rattle.verdicts.proofs.CountLaws.{Counting, verdict-at, both-fits, counting-none, counting-more, count-wide, count-gap, count-all}
 use Rattle.verdicts.proofs.count_records.Statement.{statement}
 use Rattle.verdicts.proofs.count_records.Tie as tie
 
 abbrev Inv-loop : tie.InvT-loop
-Inv-loop words scrubbed₀ touched₀ seen₀ at₀ scrubbed touched seen at =
-    (at % 4 ≡ 0) × (at ≤ length words) × Tallied words (length words / 4) (at / 4) scrubbed touched seen
+Inv-loop words heads₀ links₀ both₀ seen₀ row₀ heads links both seen row =
+    (length words ≤ 4 * logMost) × (length words % 4 ≡ 0) × Counting words row heads links both seen
 
 abbrev μ-loop : tie.MeasureT-loop
-μ-loop words scrubbed₀ touched₀ seen₀ at₀ scrubbed touched seen at = at
+μ-loop words heads₀ links₀ both₀ seen₀ row₀ heads links both seen row = row
 
 loop-holds : tie.Need-loop-holds Inv-loop μ-loop
-loop-holds c = (omega arith, omega arith, tallied-none _ _)
+loop-holds c = (c .before .pre .1, c .before .pre .0, counting-none (c .before .args .words .now) (c .before .pre .1))
 
-sub-at : tie.Need-sub-at Inv-loop μ-loop
-sub-at c = omega arith
-
-add-v : tie.Need-add-v Inv-loop μ-loop
-add-v c = omega arith
+sub-row : tie.Need-sub-row Inv-loop μ-loop
+sub-row c = omega arith
 
 mul-v : tie.Need-mul-v Inv-loop μ-loop
 mul-v c = omega arith
 
+add-v : tie.Need-add-v Inv-loop μ-loop
+add-v c = omega arith
+
+mul-v-2 : tie.Need-mul-v-2 Inv-loop μ-loop
+mul-v-2 c = omega arith
+
 shared-slice-read-v : tie.Need-shared-slice-read-v Inv-loop μ-loop
-shared-slice-read-v c = omega arith
+shared-slice-read-v c =
+    let at-loop = c .before .before in
+    omega (arith, at-loop .loop .inv .2 .inside)
 
-is-scrubbed-requires : tie.Need-is-scrubbed-requires Inv-loop μ-loop
-is-scrubbed-requires c κs = search needs
+slice-aggregate-count-row : tie.Need-slice-aggregate-count-row Inv-loop μ-loop
+slice-aggregate-count-row c = search needs
 
-with-requires : tie.Need-with-requires Inv-loop μ-loop
-with-requires c κs =
-    let at-loop = c .before .before .before in
-    omega (arith, at-loop .loop .inv .2 .scrub-few)
+slice-aggregate-count-row-2 : tie.Need-slice-aggregate-count-row-2 Inv-loop μ-loop
+slice-aggregate-count-row-2 c = search needs
 
-is-touched-requires : tie.Need-is-touched-requires Inv-loop μ-loop
-is-touched-requires c κs = search needs
+cast-count-row : tie.Need-cast-count-row Inv-loop μ-loop
+cast-count-row c = omega arith
 
-with-requires-2 : tie.Need-with-requires-2 Inv-loop μ-loop
-with-requires-2 c κs =
-    let at-loop = c .before .before .before .before .before in
-    omega (arith, at-loop .loop .inv .2 .touch-few)
+count-row-requires : tie.Need-count-row-requires Inv-loop μ-loop
+count-row-requires c κs =
+    let at-loop = c .before .before .before .before in
+    let start = at-loop .before .before in
+    let row = at-loop .loop .row in
+    let now = at-loop .loop .inv .2 in
+    let e : row ≡ row - 1 + 1 = omega arith in (
+      omega (arith, now .inside),
+      ap (λ (v : ℕ). v % 256) (verdict-at (start .args .words .now) (row - 1)),
+      subst (λ (k : ℕ). Kept (start .args .words .now) k (at-loop .loop .heads) (at-loop .loop .links)) e (now .kept),
+    )
+
+add-both : tie.Need-add-both Inv-loop μ-loop
+add-both c =
+    let at-count-row = c .before .before in
+    let at-loop = at-count-row .before .before .before .before .before in
+    let start = at-loop .before .before in
+    let row = at-loop .loop .row in
+    let fits = both-fits (start .args .words .now) (at-loop .loop .inv .0) row (row - 1) (at-loop .loop .both) (at-count-row .count-row .result) (omega arith)
+    (at-loop .loop .inv .2 .sum) (at-count-row .count-row .ensures .0) in
+    omega arith
 
 loop-less : tie.Need-loop-less Inv-loop μ-loop
 loop-less c = omega arith
 
 loop-again : tie.Need-loop-again Inv-loop μ-loop
 loop-again c =
-    let at-is-touched = c .before in
-    let at-with = at-is-touched .before in
-    let at-is-scrubbed = at-with .before in
-    let at-loop = at-is-scrubbed .before .before .before in (
-      omega arith,
-      omega arith,
-      tallied-more _ _ _ _ _ _ _ _ _ _ _ _ _ _ (omega arith) (omega arith) refl refl (at-is-scrubbed .is-scrubbed .ensures)
-          (at-is-touched .is-touched .ensures) (at-with .with .ensures) (c .with2 .ensures) (at-loop .loop .inv .2),
+    let at-count-row = c .before .before in
+    let at-loop = at-count-row .before .before .before .before .before in
+    let start = at-loop .before .before in
+    let row = at-loop .loop .row in (
+      at-loop .loop .inv .0,
+      at-loop .loop .inv .1,
+      counting-more (start .args .words .now) (at-loop .loop .inv .0) row (row - 1) (at-loop .loop .both) (at-count-row .count-row .result) _ _ _ _ _ _
+          (omega arith) (verdict-at (start .args .words .now) (row - 1)) (at-count-row .count-row .ensures .0) (at-count-row .count-row .ensures .1)
+          (at-loop .loop .inv .2),
     )
 
 returns : tie.Need-returns Inv-loop μ-loop
-returns c = count-wide _ _ (omega arith) (omega arith) _ _ _ (tallied-all _ _ _ _ _ _ (omega arith) (c .before .before .loop .inv .2)) (omega arith)
+returns c =
+    let at-loop = c .before .before in
+    let inv = at-loop .loop .inv in
+    count-wide _ (inv .0) (inv .1) _ (omega arith) _ _ _ _ (inv .2) (c .if1 .taken)
+
+sub-gap : tie.Need-sub-gap Inv-loop μ-loop
+sub-gap c =
+    let at-loop = c .before .before in
+    let inv = at-loop .loop .inv in
+    count-gap _ (inv .0) (inv .1) _ (omega arith) _ _ _ _ (inv .2) (c .if1 .left)
 
 returns-2 : tie.Need-returns-2 Inv-loop μ-loop
-returns-2 c = count-all _ _ (omega arith) (omega arith) _ _ _ (tallied-all _ _ _ _ _ _ (omega arith) (c .before .before .loop .inv .2)) (omega arith)
+returns-2 c =
+    let at-loop = c .before .before in
+    let inv = at-loop .loop .inv in
+    count-all _ (inv .0) (inv .1) _ (omega arith) _ _ _ _ (inv .2) (c .if1 .left)
 
 pub count-records-spec : {M : Type 1} → statement M
 count-records-spec =
@@ -74,15 +109,18 @@ count-records-spec =
     Inv-loop
     μ-loop
     loop-holds
-    sub-at
-    add-v
+    sub-row
     mul-v
+    add-v
+    mul-v-2
     shared-slice-read-v
-    is-scrubbed-requires
-    with-requires
-    is-touched-requires
-    with-requires-2
+    slice-aggregate-count-row
+    slice-aggregate-count-row-2
+    cast-count-row
+    count-row-requires
+    add-both
     loop-less
     loop-again
     returns
+    sub-gap
     returns-2)

@@ -12,7 +12,7 @@ store-requires : tie.Need-store-requires
 store-requires c κs = search needs
 
 returns : tie.Need-returns
-returns c = c .store .ensures ∙ ap countValues (c .before .before .before .count .ensures)
+returns c = c .store .ensures ∙ ap countValues (c .before .before .before .before .count .ensures)
 
 pub pollencart-count-spec : {M : Type 1} → statement M
 pollencart-count-spec = tie.close (tie.spec count-requires store-requires returns)

@@ -12,7 +12,7 @@ store-requires : tie.Need-store-requires
 store-requires c κs = search needs
 
 returns : tie.Need-returns
-returns c = c .store .ensures ∙ ap countValues (c .before .before .before .count-node .ensures)
+returns c = c .store .ensures ∙ ap countValues (c .before .before .before .before .count-node .ensures)
 
 pub pollencart-count-node-spec : {M : Type 1} → statement M
 pollencart-count-node-spec = tie.close (tie.spec count-node-requires store-requires returns)
