@@ -5,7 +5,7 @@ use mathlib.Core.List.{List, [], _∷_, map}
 use Prim.Native.Nat.{ℕ, suc, _+_, _-_, _*_, _/_, _%_, _<_, _≤_}
 use native.Mathlib.Omega.{arith}
 use borrow.Author.Tests.{ltb-true, ltb-false, eqb-true, eqb-false, lt-ltb}
-use lib.ListN.{length, getD, drop, set, replicate, length-set, length-replicate, getD-replicate, drop-of-length-le, List·getD-eq-default}
+use lib.ListN.{length, getD, drop, set, replicate, length-set, length-map, length-drop, length-replicate, getD-replicate, drop-of-length-le, List·getD-eq-default}
 use lib.Seq.{drop-cons, getD-set-same, getD-set-other}
 use lib.Dec.{ltb, eqb}
 use Rattle.meaning.specs.declared.Class.{Class}
@@ -332,7 +332,7 @@ module _ (w : List ℕ) (whole : length w ≤ 4 * logMost) where
   noted-none = record { kept = kept-none; scrubs = rw none-since; touches = rw none-since }
 
 -- no more pairs than records
-pub pairs-length : (f : Class → Bool) (rs : List Record) → length (pairsOf f rs) ≤ length rs
+pairs-length : (f : Class → Bool) (rs : List Record) → length (pairsOf f rs) ≤ length rs
 unfolding pairsOf different keep
 pairs-length f [] = omega arith
 pairs-length f (r ∷ rs) =
@@ -344,3 +344,17 @@ pairs-length f (r ∷ rs) =
         → length (pairsOf f (r ∷ rs)) ≤ suc (length rs)
     go true h ih = omega arith
     go false h ih = omega arith
+
+-- so neither count is above 64
+pub noted-low : (w : List ℕ) (at : ℕ) (heads links : List ℕ) (s t : ℕ) → Noted w at heads links s t → (s ≤ 64) × (t ≤ 64)
+unfolding scrubbed touched
+noted-low w at heads links s t noted =
+    let room = noted .kept .rising .room in
+    let m = length-map (drop at (records (length w / 4) w)) lowByte in
+    let a = length-drop at (records (length w / 4) w) in
+    let b = length-records (length w / 4) w in
+    let es = noted .scrubs in
+    let et = noted .touches in
+    let ps = pairs-length isScrubbed (since w at) in
+    let pt = pairs-length isTouched (since w at) in
+    (omega arith, omega arith)
