@@ -58,17 +58,17 @@ fn is_touched(c: Class) -> bool
     }
 }
 
-// Both tests of a verdict are functions of their own: the compiler makes one comparison of each.
-fn scrubs(v: u8) -> bool
-    ensures { λ r. ⌜ r ≡ isScrubbed (classOf v) ⌝ }
+// Both tests of a verdict are functions of their own, so that the compiler makes one comparison of the class's many.
+fn scrubs(verdict: u8) -> bool
+    ensures { λ r. ⌜ r ≡ isScrubbed (classOf verdict) ⌝ }
 {
-    is_scrubbed(class_of(v))
+    is_scrubbed(class_of(verdict))
 }
 
-fn touches(v: u8) -> bool
-    ensures { λ r. ⌜ r ≡ isTouched (classOf v) ⌝ }
+fn touches(verdict: u8) -> bool
+    ensures { λ r. ⌜ r ≡ isTouched (classOf verdict) ⌝ }
 {
-    is_touched(class_of(v))
+    is_touched(class_of(verdict))
 }
 
 fn one_if(b: bool) -> u32
@@ -100,9 +100,11 @@ fn note(
     if k == 0 {
         put_first(heads, links, slot, end / 4);
         *scrubbed += 1;
+        // written out, since the compiler makes one instruction less of it than of `+=`
         *touched = *touched + one_if(platter);
         return;
     }
+    // the record that stands for the pair is a touched one if the pair has any
     if touches((words[4 * k - 1] % 256) as u8) {
         return;
     }
