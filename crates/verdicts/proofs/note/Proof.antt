@@ -37,16 +37,18 @@ cast-find c =
     let at-slot-of = c .before .before in
     let at-words = at-slot-of .before .before .before in
     let start = at-words .before .before .before in
-    let low = head-within (start .args .words .now) _ (start .args .heads .now) (start .args .links .now) (start .pre .1 .0 .kept) (at-slot-of .slot-of .result) in
-    omega (arith, start .pre .1 .0 .kept .rising .room)
+    let kept = start .pre .1 .0 .kept in
+    let low = head-within (start .args .words .now) _ (start .args .heads .now) (start .args .links .now) kept (at-slot-of .slot-of .result) in
+    omega (arith, kept .rising .room)
 
 find-requires : tie.Need-find-requires
 find-requires c κs =
     let at-slot-of = c .before .before in
     let at-words = at-slot-of .before .before .before in
     let start = at-words .before .before .before in
-    let low = head-within (start .args .words .now) _ (start .args .heads .now) (start .args .links .now) (start .pre .1 .0 .kept) (at-slot-of .slot-of .result) in
-    (start .pre .1 .0 .kept .rising, low)
+    let kept = start .pre .1 .0 .kept in
+    let low = head-within (start .args .words .now) _ (start .args .heads .now) (start .args .links .now) kept (at-slot-of .slot-of .result) in
+    (kept .rising, low)
 
 put-first-requires : tie.Need-put-first-requires
 put-first-requires c κs = search needs
