@@ -1,14 +1,23 @@
 -- `pairs::goes_on`: there is no record, or the answer for the one there is.
 use borrow.Author.Needs.{needs}
+use mathlib.Core.Path.{_≡_}
+use mathlib.Core.Bool.{false}
+use mathlib.Core.List.{List}
+use Prim.Native.Nat.{ℕ}
 use native.Mathlib.Omega.{arith}
 use borrow.Author.Tests.{lt-ltb, le-ltb}
+use Rattle.meaning.specs.Verdicts.{Pair}
+use Rattle.pairs.specs.Chains.{aPair, goesOn}
 use Rattle.pairs.proofs.goes_on.Statement.{statement}
 use Rattle.pairs.proofs.goes_on.Tie as tie
+
+none : (w : List ℕ) (x : Pair) (k : ℕ) → k ≡ 0 → false ≡ goesOn w x k
+none w x k e = rw (le-ltb 0 k (omega arith))
 
 returns : tie.Need-returns
 returns c =
     let start = c .before .before in
-    rw (le-ltb 0 (start .args .k) (omega (arith, c .if1 .taken)))
+    none (start .args .words .now) (aPair (start .args .origin) (start .args .block)) (start .args .k) (c .if1 .taken)
 
 other-pair-requires : tie.Need-other-pair-requires
 other-pair-requires c κs = search needs
