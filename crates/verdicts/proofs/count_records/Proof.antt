@@ -56,7 +56,8 @@ count-row-requires c κs =
 
 sub-end : tie.Need-sub-end Inv-loop μ-loop
 sub-end c =
-    let at-loop = c .before .before .before .before .before .before .before .before .before in
+    let at-count-row = c .before .before in
+    let at-loop = at-count-row .before .before .before .before .before .before .before in
     omega (arith, at-loop .loop .inv .2 .even)
 
 loop-less : tie.Need-loop-less Inv-loop μ-loop
