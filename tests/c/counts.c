@@ -97,9 +97,10 @@ static void full_lists(void) {
     }
 }
 
-/* 64 different blocks, and then each twice, that a slot function by a product of the block puts into one of 64 slots: the golden ratio in 32 bits and in 64. */
+/* 64 different blocks, and then each twice, that a slot function by a product of the block puts into one of 64 slots: the library's own, the golden
+ * ratio in 32 bits and in 64. */
 static void one_slot(void) {
-    static const struct { uint64_t by; uint32_t from; } products[] = {{2654435761u, 26}, {0x9E3779B97F4A7C15u, 58}, {1, 0}};
+    static const struct { uint64_t by; uint32_t from; } products[] = {{67915001u, 26}, {2654435761u, 26}, {0x9E3779B97F4A7C15u, 58}, {1, 0}};
     for (uint32_t k = 0; k < LENGTH(products); k++) {
         uint32_t block = 0, many = 0;
         for (; many < 64; block++)

@@ -1,2 +1,3 @@
 pub mod OneReply
 pub mod CountLaws
+pub mod NoteLaws

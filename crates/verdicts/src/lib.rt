@@ -1,17 +1,19 @@
 // The verdict count. Document 01, "Verdict count"; document 02, T-05; the definitions are those of specs/Verdicts.antt.
 ghost use mathlib.Core.Path.{_≡_};
-ghost use mathlib.Core.Bool.{true};
-ghost use Prim.Native.Nat.{_+_, _*_, _%_, _<_, _≤_};
+ghost use mathlib.Core.Bool.{true, cond};
+ghost use Prim.Native.Nat.{_-_, _*_, _/_, _%_, _<_, _≤_};
 ghost use lib.ListN.{length};
 ghost use Rattle.meaning.specs.Rows.{recordAt};
 ghost use Rattle.meaning.specs.Table.{tableWords, nodesMost, logMost, held, sound};
 ghost use Rattle.meaning.specs.Verdicts.{classOf, isScrubbed, isTouched, verdictCount, nodeCount};
-ghost use Rattle.pairs.specs.Chains.{Kept, since, tally};
+ghost use Rattle.pairs.specs.Chains.{Noted, touchedAt};
 use layout::LOG_WORDS;
 use layout::RECORD_WORDS;
 use meaning::Class;
 use meaning::Count;
-use pairs::note;
+use pairs::find;
+use pairs::put_first;
+use pairs::slot_of;
 
 // "00–0F not read; 10–1F answered from page cache; 20–2F read from platter, good; 30–3F read from platter, bad;
 // 40–4F repaired and read back; 50–FF reserved"
@@ -56,41 +58,120 @@ fn is_touched(c: Class) -> bool
     }
 }
 
-// What the record of a row adds to both counts, over those from the next row on, and the slots with its pair.
-fn count_row(words: &[u32], heads: &mut [u8], links: &mut [u8], row: usize, v: u8) -> u32
-    requires { ⌜ (4 * row + 4 ≤ length (now words)) × (v ≡ recordAt (now words) row .verdict % 256) × Kept (now words) (row + 1) (now heads) (now links) ⌝ }
-    ensures { λ n. ⌜ n + tally (since (now (words .entry)) (row + 1)) ≡ tally (since (now (words .entry)) row) ⌝ }
-    ensures { λ _. ⌜ Kept (now (words .entry)) row (now (heads .exit)) (now (links .exit)) ⌝ }
+// Both tests of a verdict are functions of their own, so that the compiler makes one comparison of the class's many.
+fn scrubs(verdict: u8) -> bool
+    ensures { λ r. ⌜ r ≡ isScrubbed (classOf verdict) ⌝ }
 {
-    let c = class_of(v);
-    if !is_scrubbed(c) {
-        return 0;
+    is_scrubbed(class_of(verdict))
+}
+
+fn touches(verdict: u8) -> bool
+    ensures { λ r. ⌜ r ≡ isTouched (classOf verdict) ⌝ }
+{
+    is_touched(class_of(verdict))
+}
+
+fn one_if(b: bool) -> u32
+    ensures { λ n. ⌜ (n ≡ cond b 1 0) × (n ≤ 1) ⌝ }
+{
+    if b { 1 } else { 0 }
+}
+
+// Notes the pair of the scrubbed record that ends before word `end`: where it is new, or touched for the first time, the record stands for it from now on.
+fn note(
+    words: &[u32],
+    heads: &mut [u8],
+    links: &mut [u8],
+    end: usize,
+    platter: bool,
+    scrubbed: &mut u32,
+    touched: &mut u32,
+)
+    requires { ⌜ (end % 4 ≡ 0) × (0 < end) × (end ≤ length (now words)) ⌝ }
+    requires { ⌜ Noted (now words) (end / 4) (now heads) (now links) (now scrubbed) (now touched) ⌝ }
+    requires { ⌜ isScrubbed (classOf (recordAt (now words) (end / 4 - 1) .verdict % 256)) ≡ true ⌝ }
+    requires { ⌜ platter ≡ touchedAt (now words) (end / 4) ⌝ }
+    ensures { λ _. ⌜ Noted (now (words .entry)) (end / 4 - 1) (now (heads .exit)) (now (links .exit)) (now (scrubbed .exit)) (now (touched .exit)) ⌝ }
+{
+    let origin = words[end - 4];
+    let block = words[end - 2];
+    let slot = slot_of(origin, block);
+    let k = find(words, links, heads[slot] as usize, origin, block);
+    if k == 0 {
+        put_first(heads, links, slot, end / 4);
+        *scrubbed += 1;
+        // written out, since the compiler makes one instruction less of it than of `+=`
+        *touched = *touched + one_if(platter);
+        return;
     }
-    note(words, heads, links, row, is_touched(c))
+    // the record that stands for the pair is a touched one if the pair has any
+    if touches((words[4 * k - 1] % 256) as u8) {
+        return;
+    }
+    if !platter {
+        return;
+    }
+    put_first(heads, links, slot, end / 4);
+    *touched += 1;
+}
+
+// The record that ends before word `end`, whose verdict has the low byte v: a scrubbed one is noted.
+fn count_row(
+    words: &[u32],
+    heads: &mut [u8],
+    links: &mut [u8],
+    end: usize,
+    v: u8,
+    scrubbed: &mut u32,
+    touched: &mut u32,
+)
+    requires { ⌜ (end % 4 ≡ 0) × (0 < end) × (end ≤ length (now words)) × (v ≡ recordAt (now words) (end / 4 - 1) .verdict % 256) ⌝ }
+    requires { ⌜ Noted (now words) (end / 4) (now heads) (now links) (now scrubbed) (now touched) ⌝ }
+    ensures { λ _. ⌜ Noted (now (words .entry)) (end / 4 - 1) (now (heads .exit)) (now (links .exit)) (now (scrubbed .exit)) (now (touched .exit)) ⌝ }
+{
+    if !scrubs(v) {
+        return;
+    }
+    note(
+        words,
+        heads,
+        links,
+        end,
+        is_touched(class_of(v)),
+        scrubbed,
+        touched,
+    );
 }
 
 // The count over whole records, in one pass from the last to the first. It has no early end: the verdicts' bits are gathered, and a verdict is
-// above 255 where what they make is. Both counts are kept in one number, since neither is above 64.
+// above 255 where what they make is.
 fn count_records(words: &[u32]) -> Count
     requires { ⌜ (length (now words) % 4 ≡ 0) × (length (now words) ≤ 4 * logMost) ⌝ }
     ensures { λ r. ⌜ r ≡ verdictCount (now (words .entry)) ⌝ }
 {
     let mut heads = [0u8; 64];
     let mut links = [0u8; 64];
-    let mut both: u32 = 0;
+    let mut scrubbed: u32 = 0;
+    let mut touched: u32 = 0;
     let mut seen: u32 = 0;
-    let mut row = words.len() / RECORD_WORDS;
-    while 0 < row {
-        row -= 1;
-        let v = words[RECORD_WORDS * row + 3];
+    let mut end = words.len();
+    while 0 < end {
+        let v = words[end - 1];
         seen = seen | v;
-        both += count_row(words, &mut heads, &mut links, row, (v % 256) as u8);
+        count_row(
+            words,
+            &mut heads,
+            &mut links,
+            end,
+            (v % 256) as u8,
+            &mut scrubbed,
+            &mut touched,
+        );
+        end -= RECORD_WORDS;
     }
     if 255 < seen {
         return Count::Refused { number: 1 };
     }
-    let scrubbed = both % 128;
-    let touched = both / 128;
     let gap = scrubbed - touched;
     Count::Counted {
         scrubbed,
