@@ -9,7 +9,7 @@ mod layout;
 #[path = "../tests/rust/src/model.rs"]
 mod model;
 
-use layout::{JOURNAL, LIST, TEXT, WORDS};
+use layout::{COLUMN_WORDS, JOURNAL, LIST, TEXT, WORDS};
 use model::{Action, Record, Table};
 use std::hint::black_box;
 use std::time::Instant;
@@ -241,7 +241,12 @@ fn frames(rows: &mut Vec<Row>) {
 
 /// A cluster of n nodes, each with `held` records of its own at timestamps 1 and up.
 fn cluster(n: u32, held: u32) -> Table {
-    let mut table = model::fresh(WORDS, n).unwrap();
+    cluster_in(WORDS, n, held)
+}
+
+/// The same in a table of so many words.
+fn cluster_in(words: usize, n: u32, held: u32) -> Table {
+    let mut table = model::fresh(words, n).unwrap();
     for p in 0..n {
         for timestamp in 1..=held {
             assert_eq!(table.apply(Action::Write { node: p as u8, timestamp, block: timestamp, verdict: (timestamp % 96) as u8 }).refusal, 0);
@@ -331,6 +336,34 @@ fn steps(rows: &mut Vec<Row>) {
     step(rows, "session, 32 to each (16 nodes, 32 held)", &cluster(16, 32), session(99, 99));
 }
 
+/// The same steps on tables of columns.
+fn column_steps(rows: &mut Vec<Row>) {
+    let session = |outcome| Action::Session { a: 0, b: 1, ca: 99, cb: 99, outcome };
+    for (n, held, which) in [(2, 4, "2 nodes, 4 held"), (16, 32, "16 nodes, 32 held")] {
+        let table = cluster_in(COLUMN_WORDS, n, held);
+        step(rows, &format!("columns: write ({which})"), &table, Action::Write { node: 1, timestamp: 99, block: 1, verdict: 0x20 });
+        let mut met = table.clone();
+        met.columns.iter_mut().take(n as usize).flatten().take((n * 16) as usize).for_each(|column| column[..n as usize].fill(held));
+        step(rows, &format!("columns: session, none carried ({which})"), &met, session(3));
+        step(rows, &format!("columns: session, none carried, only a finishes ({which})"), &met, session(1));
+        step(rows, &format!("columns: session, neither side finishes ({which})"), &met, session(0));
+        // the own column is the summary, the others are behind it: at half, or at nothing
+        let behind = |entry: u32| {
+            let mut behind = met.clone();
+            behind.columns[0][1..n as usize].iter_mut().for_each(|column| column[..n as usize].fill(entry));
+            behind
+        };
+        let (half, none) = (behind(held / 2), behind(0));
+        assert_eq!(half.clone().apply(Action::Purge { node: 0 }).removed, held / 2);
+        assert_eq!(none.clone().apply(Action::Purge { node: 0 }).removed, 0);
+        step(rows, &format!("columns: purge of half ({which})"), &half, Action::Purge { node: 0 });
+        step(rows, &format!("columns: purge of none ({which})"), &none, Action::Purge { node: 0 });
+        line_applied(rows, &format!("columns: a line applied: session, none carried ({which})"), &met, session(3));
+        line_applied(rows, &format!("columns: a line applied: purge of none ({which})"), &none, Action::Purge { node: 0 });
+    }
+    step(rows, "columns: session, 32 to each (16 nodes, 32 held)", &cluster_in(COLUMN_WORDS, 16, 32), session(3));
+}
+
 /// A delivery of node 0: a log of so many records of n origins at timestamps 1 and up, in order or in reverse, of which the last `due` are above the mark.
 fn deliveries(rows: &mut Vec<Row>) {
     for (name, n, held, due, reverse) in [
@@ -366,7 +399,7 @@ fn line_applied(rows: &mut Vec<Row>, name: &str, table: &Table, action: Action) 
         let line = line.clone();
         move |copy: &mut Vec<u32>| {
             let (mut x, mut y, mut place) = (0, 0, 0);
-            let answer = unsafe { (api.apply_line)(copy.as_mut_ptr(), WORDS, black_box(line.as_ptr()), line.len(), &mut x, &mut y, &mut place) };
+            let answer = unsafe { (api.apply_line)(copy.as_mut_ptr(), copy.len(), black_box(line.as_ptr()), line.len(), &mut x, &mut y, &mut place) };
             black_box((x, y, place));
             answer
         }
@@ -375,10 +408,10 @@ fn line_applied(rows: &mut Vec<Row>, name: &str, table: &Table, action: Action) 
 }
 
 /// Many lines applied to a fresh table in one call; the time is that of one line.
-fn lines_applied(rows: &mut Vec<Row>, name: &str, actions: &[Action]) {
+fn lines_applied(rows: &mut Vec<Row>, name: &str, length: usize, actions: &[Action]) {
     let text: Vec<u8> = actions.iter().flat_map(|action| model::frame(*action).unwrap()).collect();
     let (mut words, mut after, many) = (Vec::new(), Vec::new(), actions.len());
-    let mut table = model::fresh(WORDS, 16).unwrap();
+    let mut table = model::fresh(length, 16).unwrap();
     table.to_words(&mut words);
     let said = model::apply_lines(Some(&mut table), &text);
     table.to_words(&mut after);
@@ -390,7 +423,7 @@ fn lines_applied(rows: &mut Vec<Row>, name: &str, actions: &[Action]) {
             copy.copy_from_slice(&words);
             let (mut applied, mut refused, mut stopped, mut place) = (0, 0, 0, 0);
             let began = Instant::now();
-            let number = unsafe { (api.apply_lines)(copy.as_mut_ptr(), WORDS, black_box(text.as_ptr()), text.len(), &mut applied, &mut refused, &mut stopped, &mut place) };
+            let number = unsafe { (api.apply_lines)(copy.as_mut_ptr(), copy.len(), black_box(text.as_ptr()), text.len(), &mut applied, &mut refused, &mut stopped, &mut place) };
             let took = began.elapsed().as_nanos() as f64 / many as f64;
             assert_eq!((number, applied, refused as u32, stopped, place), (0, many, said[2], text.len(), 0));
             assert!(copy == after);
@@ -418,13 +451,16 @@ fn applies(rows: &mut Vec<Row>) {
         line_applied(rows, &format!("a line applied: delivery of all ({which})"), &table, Action::Deliver { node: 0 });
     }
     let writes: Vec<Action> = (0..1000).map(|i| Action::Write { node: (i % 16) as u8, timestamp: i + 1, block: i, verdict: 0x20 }).collect();
-    lines_applied(rows, "a line of many applied: write", &writes);
+    lines_applied(rows, "a line of many applied: write", WORDS, &writes);
     let none: Vec<Action> = (0..2400).map(|i| Action::Session { a: (i % 16) as u8, b: ((i + 1) % 16) as u8, ca: i, cb: i, outcome: 3 }).collect();
-    lines_applied(rows, "a line of many applied: session, none carried", &none);
+    lines_applied(rows, "a line of many applied: session, none carried", WORDS, &none);
     let purges: Vec<Action> = (0..2400).map(|i| Action::Purge { node: (i % 16) as u8 }).collect();
-    lines_applied(rows, "a line of many applied: purge of none", &purges);
+    lines_applied(rows, "a line of many applied: purge of none", WORDS, &purges);
     let deliveries: Vec<Action> = (0..2400).map(|i| Action::Deliver { node: (i % 16) as u8 }).collect();
-    lines_applied(rows, "a line of many applied: delivery of none", &deliveries);
+    lines_applied(rows, "a line of many applied: delivery of none", WORDS, &deliveries);
+    lines_applied(rows, "columns: a line of many applied: write", COLUMN_WORDS, &writes);
+    lines_applied(rows, "columns: a line of many applied: session, none carried", COLUMN_WORDS, &none);
+    lines_applied(rows, "columns: a line of many applied: purge of none", COLUMN_WORDS, &purges);
 }
 
 /// A journal of a start and these steps, with its replay's text checked against the model once.
@@ -590,6 +626,7 @@ fn main() {
     lines(&mut rows);
     frames(&mut rows);
     steps(&mut rows);
+    column_steps(&mut rows);
     deliveries(&mut rows);
     applies(&mut rows);
     journals(&mut rows);

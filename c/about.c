@@ -46,6 +46,8 @@ const char *pollencart_refusal_text(uint32_t number)
         return "the length is not the kind's";
     case POLLENCART_LINE_OUTCOME:
         return "a line's outcome is above 3";
+    case POLLENCART_ON_COLUMNS:
+        return "a delivery on a column table";
     /* end of refusals */
     default:
         return "no refusal has this number";

@@ -12,7 +12,7 @@
  *
  * A null pointer is allowed where its length is 0, and gets what any list of length 0 gets:
  *   check_line and read_line 18 at place 0 (read_line of a frame into no words 17); kind and field 0; the frame writers 17 (after 15 for n and 2 for the outcome) and the length 0;
- *   fresh, write, session, purge, deliver and count_node 1, and counts of 0; summary, acknowledgement, held, mark and record 0;
+ *   fresh, write, session, purge, deliver and count_node 1, and counts of 0; summary, acknowledgement, column, held, mark and record 0;
  *   deliver into no list 0 where nothing is due, else 7, and counts of 0;
  *   apply_line 18 at place 0 and counts of 0 for no line, whatever the table, and 1 for a step's line and no table;
  *   apply_lines 0, counts of 0 and the places 0 for no lines on a sound table, and 1 with the same zeros for no table;
@@ -56,6 +56,7 @@ const char *pollencart_version(void);
 #define POLLENCART_ODD 18          /* the digits are none or odd in number */
 #define POLLENCART_LENGTH 19       /* the length is not the kind's */
 #define POLLENCART_LINE_OUTCOME 20 /* a line's outcome is above 3 */
+#define POLLENCART_ON_COLUMNS 26   /* a delivery on a column table */
 /* end of refusals */
 
 /* What is wrong, as in the list above: for a number that is not there and for 0 it says so. It ends in a zero byte and is never null.
@@ -86,8 +87,9 @@ const char *pollencart_refusal_text(uint32_t number);
 /* The bytes of the longest frame, its LF included. */
 #define POLLENCART_FRAME 27
 
-/* The words of a table: 4,625 before version 0.2.0. */
+/* The words of a table, which tell its form: of vectors (4,625 before version 0.2.0) or of columns. */
 #define POLLENCART_TABLE 4641
+#define POLLENCART_COLUMN_TABLE 8225
 
 /* The words of a list that every delivery fits in: 64 records of 4. */
 #define POLLENCART_LIST 256
@@ -137,41 +139,53 @@ uint32_t pollencart_frame_session(uint8_t *out, size_t out_len, uint8_t a, uint8
 uint32_t pollencart_frame_purge(uint8_t *out, size_t out_len, uint8_t node, uint32_t *length);
 uint32_t pollencart_frame_deliver(uint8_t *out, size_t out_len, uint8_t node, uint32_t *length);
 
-/* A table is POLLENCART_TABLE words, kept by the caller between calls:
- *   word 0         n, the number of nodes, 2 to 16; nodes are numbered from 0
- *   from word 1    16 rows of 16, a row a node: its summary. Entry o: the node has every record of o up to this timestamp
- *   from word 257  16 rows of 16: its acknowledgements. Entry q: what the node knows that q has acknowledged
- *   from word 513  16 words: the number of records in its log, 0 to 64
- *   from word 529  16 logs of 64 rows of 4: origin, timestamp, block, verdict
- *   from word 4625 16 words: its mark, the timestamp up to which its records were delivered, 0 at first
- * It is sound if it has so many words, n is 2 to 16, and in each log of a node below n at most 64 records are held, each with
- * an origin below n and a verdict of at most 255; of marks nothing is asked. Rows and entries at or beyond n are never read or
- * written by a step.
+/* A table is POLLENCART_TABLE or POLLENCART_COLUMN_TABLE words, kept by the caller between calls. Both hold the same findings; they differ in what a
+ * node keeps of the others. A vector table is the smaller one, and delivers; it is for clocks that agree, since one slow clock stops every purge.
+ * In a column table a slow clock holds up nothing, and nothing is delivered. A cluster keeps the form that it began with.
  *
- * fresh: n is set and every other word becomes 0. Answers 1 and changes nothing if n is not 2 to 16 or table_len is not
- * POLLENCART_TABLE. This call alone takes words that are not a table yet. */
+ *   vectors     columns
+ *   word 0      word 0       n, the number of nodes, 2 to 16; nodes are numbered from 0
+ *   from 1                   16 rows of 16, a row a node: its summary. Entry o: the node has every record of o up to this timestamp
+ *   from 257                 16 rows of 16: its acknowledgements. Entry q: what the node knows that q has acknowledged
+ *               from 1       16 nodes of 16 rows of 16: node p's column for q, from 1 + 256 p + 16 q on. Entry o: p knows that q has every
+ *                            record of o up to this timestamp. Its column for itself is its summary
+ *   from 513    from 4097    16 words: the number of records in its log, 0 to 64
+ *   from 529    from 4113    16 logs of 64 rows of 4: origin, timestamp, block, verdict
+ *   from 4625   from 8209    16 words: its mark, the timestamp up to which its records were delivered, 0 at first; in a column table kept and not read
+ *
+ * It is sound if it has so many words, n is 2 to 16, and in each log of a node below n at most 64 records are held, each with
+ * an origin below n and a verdict of at most 255; of marks, summaries, acknowledgements and columns nothing is asked. Rows, columns and entries at
+ * or beyond n are never read or written by a step.
+ *
+ * fresh: n is set and every other word becomes 0; table_len says which form it is. Answers 1 and changes nothing if n is not 2 to 16 or table_len is
+ * neither length. This call alone takes words that are not a table yet. */
 uint32_t pollencart_fresh(uint32_t *table, size_t table_len, uint32_t n);
 
 /* The four actions change the table and answer 0. A refused call changes no word of the table, stores 0 for each count and
- * answers the first number of 1 to 7 that applies.
+ * answers the first number that applies, in the order in which they stand below.
  *
  * write:   the node's finding goes after the last record of its log, and its own summary entry becomes the timestamp.
  *          Refused with 1, 3, 5 (the timestamp is not above the own entry) or 6 (64 are held).
  * session: a and b exchange at readings ca and cb. outcome: 0 neither side finishes, 1 only a, 2 only b, 3 both
  *          (POLLENCART_FINISH_..). What was carried to each is stored through to_a and to_b, 0 for a side that does not finish.
+ *          In a column table a side that finishes also has, in each of its columns, entry by entry the greater of what both had at the start, and its
+ *          own column takes the partner's own too. A side that does not finish has its own summary entry at the reading; in a vector table its own
+ *          acknowledgement is then the smallest entry of its summary.
  *          Refused with 1, 2, 3, 4, 5 (a reading is below its node's own entry) or 6 (a finishing side would hold more than 64).
  * purge:   the node's records that are not above the smallest of its acknowledgements, and not above its mark, leave; how many is
  *          stored through removed. Deliver first: before its first delivery nothing leaves a node. The node whose acknowledgement
  *          is that smallest, the lowest among equals, is stored through lags, whether a record left or not: what is still held has
- *          a timestamp above that acknowledgement or above the mark. No row before the first record that leaves is stored to, and
- *          where none leaves no word of the table. Refused with 1 or 3, and then lags is 0.
+ *          a timestamp above that acknowledgement or above the mark.
+ *          In a column table a record leaves if each of the node's columns has for its origin an entry that is not below its timestamp. No delivery is
+ *          needed. Lags is the first node whose column has the smallest of all n times n entries, whether a record waits for it or not.
+ *          No row before the first record that leaves is stored to, and where none leaves no word of the table. Refused with 1 or 3, and then lags is 0.
  * deliver: what has become certain at the node is written into list, in the order that is the same at every node. Due are the records of
  *          its log with a timestamp above its mark and not above the smallest of its summary entries: no other record up to there can
  *          come any more. They come by timestamp, then origin, from list[0] on, four words each as in a log (origin, timestamp, block,
  *          verdict); how many they are is stored through delivered, and the rest of the list stays as it is. Then the mark becomes that
  *          smallest entry, where that is greater, so that no record is delivered twice. The log stays: a purge shortens it.
  *          All that a node is given, delivery after delivery, is a beginning of what any other node is given, or the other way round.
- *          Refused with 1, 3 or 7 (list_len is below four for each record that is due); refused it leaves the list as it is too.
+ *          Refused with 1, 3, 26 (a column table) or 7 (list_len is below four for each record that is due); refused it leaves the list as it is too.
  *          POLLENCART_LIST words are always enough; a list of any length is taken. */
 uint32_t pollencart_write(uint32_t *table, size_t table_len, uint8_t node, uint32_t timestamp, uint32_t block, uint8_t verdict);
 uint32_t pollencart_session(uint32_t *table, size_t table_len, uint8_t a, uint8_t b, uint32_t ca, uint32_t cb, uint8_t outcome,
@@ -185,8 +199,8 @@ uint32_t pollencart_deliver(uint32_t *table, size_t table_len, uint8_t node, uin
  * records go to no one. Who wants them calls pollencart_deliver.
  *
  * apply_line:  one line, without its LF. Answers 0, or the line's own refusal with its place as check_line gives them (15 at place
- *              0 also for a start), which comes before anything about the table; then the step's: the first of 1 to 6 that applies,
- *              with place 0. What the step reports is stored through first and second: for a session what was carried to a and to b,
+ *              0 also for a start), which comes before anything about the table; then the step's: the first of 1 to 6, or 26 after 3, that
+ *              applies, with place 0. What the step reports is stored through first and second: for a session what was carried to a and to b,
  *              for a purge what was removed and the node that lags, for a delivery what was due and 0, for a write 0 and 0. Both are
  *              0 if refused.
  * apply_lines: many lines, each ended by its LF, one after another, with one look over the table at the beginning. A refused step is
@@ -216,17 +230,19 @@ uint32_t pollencart_apply_line(uint32_t *table, size_t table_len, const uint8_t 
 uint32_t pollencart_apply_lines(uint32_t *table, size_t table_len, const uint8_t *lines, size_t lines_len, size_t *applied,
                                 size_t *refused, size_t *stopped, size_t *place);
 
-/* Reading a table. Each call answers 0 where there is none: for a table that is not sound, for a node, origin or `of` of n or
+/* Reading a table. Each call answers 0 where there is none: for a table that is not sound, for a node, origin, column or `of` of n or
  * more, for an index at or beyond the held number, for a word above 3. 0 is also a value that may stand there.
  *
- * summary:         the node's summary entry for the origin.
- * acknowledgement: the node's acknowledgement entry of another.
+ * summary:         the node's summary entry for the origin; in a column table that of its column for itself.
+ * acknowledgement: the node's acknowledgement entry of another; 0 in a column table.
+ * column:          the entry for the origin of the node's column for another; 0 in a vector table.
  * held:            the number of records in the node's log.
  * mark:            the timestamp up to which the node's records were delivered.
  * record:          one word of the record at this index of the node's log, from 0, oldest first.
  *                  word: 0 origin, 1 timestamp, 2 block, 3 verdict. */
 uint32_t pollencart_summary(const uint32_t *table, size_t table_len, uint8_t node, uint8_t origin);
 uint32_t pollencart_acknowledgement(const uint32_t *table, size_t table_len, uint8_t node, uint8_t of);
+uint32_t pollencart_column(const uint32_t *table, size_t table_len, uint8_t node, uint8_t column, uint8_t origin);
 uint32_t pollencart_held(const uint32_t *table, size_t table_len, uint8_t node);
 uint32_t pollencart_mark(const uint32_t *table, size_t table_len, uint8_t node);
 uint32_t pollencart_record(const uint32_t *table, size_t table_len, uint8_t node, uint32_t index, uint32_t word);
@@ -248,7 +264,7 @@ uint32_t pollencart_count(const uint32_t *words, size_t words_len, uint32_t *scr
 uint32_t pollencart_count_node(const uint32_t *table, size_t table_len, uint8_t node, uint32_t *scrubbed, uint32_t *touched,
                                uint32_t *gap);
 
-/* The replay: reads a journal, runs its steps on a fresh table and puts the text that the program `replay` prints at the beginning
+/* The replay: reads a journal, runs its steps on a fresh vector table and puts the text that the program `replay` prints at the beginning
  * of out. Answers the number of bytes written, 0 to POLLENCART_TEXT; no zero byte ends them, and no byte after them is changed.
  *
  * Answers 0 and changes nothing if table_len is not POLLENCART_TABLE or out_len is below POLLENCART_TEXT, which is enough for every

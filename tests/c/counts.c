@@ -1,7 +1,7 @@
 /* The verdict counts of pollencart.h on lists of records and on a node's log, each between guard words that no call may touch. */
 #include "check.h"
 
-static uint32_t all[GUARD + WORDS + GUARD], copy[GUARD + WORDS + GUARD], *const lent = all + GUARD;
+static uint32_t all[GUARD + COLUMN_WORDS + GUARD], copy[GUARD + COLUMN_WORDS + GUARD], *const lent = all + GUARD;
 
 static void right_at(int right, const char *what, unsigned long at) {
     char about[24];
@@ -157,5 +157,18 @@ int main(void) {
     }
     lent[0] = 17;
     node_counts(WORDS, 1, POLLENCART_UNSOUND, 0, 0, 17);
+    /* a log of a column table: the same records, FURTHER words further */
+    fill();
+    right_at(pollencart_fresh(lent, COLUMN_WORDS, 3) == 0, "fresh", 3);
+    for (uint32_t i = 0; i < 64; i++) right_at(pollencart_write(lent, COLUMN_WORDS, 1, i + 1, i % 32, i < 32 ? 0x10 : 0x20) == 0, "write", i);
+    node_counts(COLUMN_WORDS, 1, 0, 32, 32, 66);
+    for (uint32_t i = 32; i < 64; i++) lent[FURTHER + record_at(1, i, 0)] = 2;
+    node_counts(COLUMN_WORDS, 1, 0, 64, 32, 67);
+    node_counts(COLUMN_WORDS, 0, 0, 0, 0, 68);
+    node_counts(COLUMN_WORDS, 3, POLLENCART_NODE, 0, 0, 69);
+    node_counts(COLUMN_WORDS - 1, 1, POLLENCART_UNSOUND, 0, 0, 70);
+    node_counts(COLUMN_WORDS + 1, 3, POLLENCART_UNSOUND, 0, 0, 71);
+    lent[FURTHER + HELD + 2] = 65;
+    node_counts(COLUMN_WORDS, 1, POLLENCART_UNSOUND, 0, 0, 72);
     return told("counts");
 }

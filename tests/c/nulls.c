@@ -82,6 +82,7 @@ static void tables(uint32_t *table) {
     expect("mark", pollencart_mark(table, 0, 0), 0);
     expect("summary", pollencart_summary(table, 0, 0, 0), 0);
     expect("acknowledgement", pollencart_acknowledgement(table, 0, 0, 0), 0);
+    expect("column", pollencart_column(table, 0, 0, 0, 0), 0);
     expect("held", pollencart_held(table, 0, 0), 0);
     expect("record", pollencart_record(table, 0, 0, 0, 0), 0);
     expect("count_node", pollencart_count_node(table, 0, 0, &scrubbed, &touched, &gap), POLLENCART_UNSOUND);
@@ -103,6 +104,11 @@ static void deliveries(uint32_t *list) {
     expect("deliver one", pollencart_deliver(table, POLLENCART_TABLE, 0, list, 0, &delivered), POLLENCART_LIST_SHORT);
     expect("delivered", delivered, 0);
     expect("the mark", pollencart_mark(table, POLLENCART_TABLE, 0), 0);
+    static uint32_t columns[POLLENCART_COLUMN_TABLE];
+    delivered = UNSET;
+    expect("fresh columns", pollencart_fresh(columns, POLLENCART_COLUMN_TABLE, 2), 0);
+    expect("deliver on columns", pollencart_deliver(columns, POLLENCART_COLUMN_TABLE, 0, list, 0, &delivered), POLLENCART_ON_COLUMNS);
+    expect("delivered", delivered, 0);
     delivered = UNSET;
     expect("deliver at node 2", pollencart_deliver(table, POLLENCART_TABLE, 2, list, 0, &delivered), POLLENCART_NODE);
     expect("delivered", delivered, 0);

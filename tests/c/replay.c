@@ -3,7 +3,7 @@
 #include "check.h"
 
 /* The lent words and bytes between guards, and a copy of each. */
-static uint32_t words[GUARD + WORDS + 1 + GUARD], words_copy[GUARD + WORDS + 1 + GUARD], *const table = words + GUARD;
+static uint32_t words[GUARD + COLUMN_WORDS + 1 + GUARD], words_copy[GUARD + COLUMN_WORDS + 1 + GUARD], *const table = words + GUARD;
 static uint8_t bytes[GUARD + TEXT + 1000 + GUARD], bytes_copy[GUARD + TEXT + 1000 + GUARD];
 static uint8_t journal[JOURNAL + 1], journal_copy[JOURNAL + 1];
 
@@ -60,6 +60,7 @@ int main(void) {
     replays("a table one word short", n, WORDS - 1, TEXT, "", 1);
     replays("a table one word long", n, WORDS + 1, TEXT, "", 1);
     replays("a table of no word", n, 0, TEXT, "", 1);
+    for (size_t len = COLUMN_WORDS - 1; len <= COLUMN_WORDS + 1; len++) replays("a column table, and one word beside it", n, len, TEXT, "", 1);
     replays("an empty journal", 0, WORDS, TEXT, "BAD 1 15 0\n", 1);
     replays("no LF", 6, WORDS, TEXT, "BAD 1 14 6\n", 1);
     replays("no LF after the last line", n - 1, WORDS, TEXT, "BAD 8 14 6\n", 0);

@@ -1,76 +1,10 @@
-/* The table functions of pollencart.h as a caller meets them: examples of each action with every changed word written out, each
+/* The table functions of pollencart.h as a caller meets them, on vector tables: examples of each action with every changed word written out, each
  * refusal number that a call can give and which of two comes first, tables that are not sound, wrong lengths, and the readers at
  * every place and beyond. A table stands between guard words that no call may touch, and after each call every word is compared.
  * No action is worked out here: tests/rust compares what steps do with an independent implementation. */
-#include "lent.h"
+#include "calls.h"
 
-typedef char same_words[POLLENCART_TABLE == WORDS && POLLENCART_LIST == LIST && POLLENCART_TEXT == TEXT && POLLENCART_JOURNAL == JOURNAL ? 1 : -1];
-
-static uint32_t any(void) {
-    static uint64_t x = 88172645463325252u;
-    x ^= x << 13;
-    x ^= x >> 7;
-    x ^= x << 17;
-    return (uint32_t)(x >> 16);
-}
-
-static unsigned long met[4][7], met_delivering[8];
-
-/* A call: its kind, 0 to 3, and its fields. */
-enum { FRESH, WRITE, SESSION, PURGE };
-struct call {
-    int kind;
-    uint32_t f[5];
-};
-
-#define FRESH_OF(n) ((struct call){FRESH, {n}})
-#define WRITE_OF(...) ((struct call){WRITE, {__VA_ARGS__}})
-#define SESSION_OF(...) ((struct call){SESSION, {__VA_ARGS__}})
-#define PURGE_OF(n) ((struct call){PURGE, {n}})
-
-/* Makes the call on a copy of the table that is due and compares its answer and its counts. */
-static void answers(const char *about, struct call c, size_t len, uint32_t number, uint32_t count, uint32_t count_b) {
-    uint32_t *w = lend(), x = UNSET, y = UNSET, r = UNSET;
-    const uint32_t *f = c.f;
-    switch (c.kind) {
-    case FRESH: r = pollencart_fresh(w, len, f[0]); break;
-    case WRITE: r = pollencart_write(w, len, (uint8_t)f[0], f[1], f[2], (uint8_t)f[3]); break;
-    case SESSION: r = pollencart_session(w, len, (uint8_t)f[0], (uint8_t)f[1], f[2], f[3], (uint8_t)f[4], &x, &y); break;
-    default: r = pollencart_purge(w, len, (uint8_t)f[0], &x, &y); break;
-    }
-    expect(r == number, about, "the number");
-    expect(x == (c.kind < SESSION ? UNSET : count) && y == (c.kind < SESSION ? UNSET : count_b), about, "the counts");
-    met[c.kind][r < 7 ? r : 0]++;
-}
-
-/* Refused: the number, zero counts, and no word changed. */
-static void refused(const char *about, struct call c, size_t len, uint32_t number) {
-    answers(about, c, len, number, 0, 0);
-    words_stand(about);
-}
-
-/* A delivery into the first `many` words of a list between guards, on a copy of the table that is due: its answer, how many it delivers, and
- * that no word of the list but those of the delivered records changes. The answer is the list. */
-static const uint32_t *delivers(const char *about, uint8_t node, size_t len, size_t many, uint32_t number, uint32_t count) {
-    static uint32_t list[GUARD + LIST + 8 + GUARD], list_copy[LENGTH(list)];
-    uint32_t delivered = UNSET;
-    for (size_t i = 0; i < LENGTH(list); i++) list[i] = 0x5A5A5A5Au ^ (uint32_t)(i * 0x01000193u);
-    memcpy(list_copy, list, sizeof list);
-    uint32_t r = pollencart_deliver(lend(), len, node, list + GUARD, many, &delivered);
-    expect(r == number, about, "the number");
-    expect(delivered == count, about, "the count");
-    size_t end = GUARD + RECORD * (size_t)count;
-    expect(memcmp(list, list_copy, GUARD * sizeof *list) == 0, about, "the words before the list");
-    expect(memcmp(list + end, list_copy + end, sizeof list - end * sizeof *list) == 0, about, "the rest of the list and the words after it");
-    met_delivering[r < 8 ? r : 0]++;
-    return list + GUARD;
-}
-
-/* Refused: nothing is delivered, and no word of the table changed. */
-static void undelivered(const char *about, uint8_t node, size_t len, size_t many, uint32_t number) {
-    delivers(about, node, len, many, number, 0);
-    words_stand(about);
-}
+typedef char same_words[POLLENCART_TABLE == WORDS && POLLENCART_COLUMN_TABLE == COLUMN_WORDS && POLLENCART_LIST == LIST && POLLENCART_TEXT == TEXT && POLLENCART_JOURNAL == JOURNAL ? 1 : -1];
 
 /* A table of three among words of any kind: node 0 holds two records, node 1 one, node 2 sixty-four. */
 static void fill(void) {
@@ -279,6 +213,7 @@ static void look(size_t len, uint32_t n) {
             int entry = p < n && o < n;
             expect(pollencart_summary(w, len, (uint8_t)p, (uint8_t)o) == (entry ? due[summary_at(p, o)] : 0), "summary", "the entry");
             expect(pollencart_acknowledgement(w, len, (uint8_t)p, (uint8_t)o) == (entry ? due[acknowledgement_at(p, o)] : 0), "acknowledgement", "the entry");
+            for (uint32_t q = 0; q < 17; q++) expect(pollencart_column(w, len, (uint8_t)p, (uint8_t)q, (uint8_t)o) == 0, "column", "none in a vector table");
         }
         for (uint32_t j = 0; j < 67 + LENGTH(beyond); j++)
             for (uint32_t k = 0; k < 6 + LENGTH(beyond); k++) {
@@ -313,7 +248,7 @@ static void spoiled(const char *about, size_t at, uint32_t value) {
 /* Tables that are not sound, one thing wrong at a time; and what lies beyond the nodes or beyond the held rows is nothing to them. */
 static void soundness(void) {
     static const uint32_t counts[] = {0, 1, 17, 256, 0x80000000u, UINT32_MAX}, helds[] = {65, 256, 0x40000000u, UINT32_MAX};
-    static const size_t lengths[] = {0, 1, MARK, WORDS - 1, WORDS + 1, WORDS + GUARD};
+    static const size_t lengths[] = {0, 1, MARK, WORDS - 1, WORDS + 1, WORDS + GUARD, COLUMN_WORDS - 1, COLUMN_WORDS + 1};
     fill();
     look(WORDS, 3);
     for (size_t i = 0; i < LENGTH(counts); i++) spoiled("the count", COUNT, counts[i]);
@@ -363,7 +298,7 @@ static void example(void) {
 }
 
 int main(void) {
-    static const int possible[4][7] = {{1, 1}, {1, 1, 0, 1, 0, 1, 1}, {1, 1, 1, 1, 1, 1, 1}, {1, 1, 0, 1}}, delivering[8] = {1, 1, 0, 1, 0, 0, 0, 1};
+    static const int possible[4][7] = {{1, 1}, {1, 1, 0, 1, 0, 1, 1}, {1, 1, 1, 1, 1, 1, 1}, {1, 1, 0, 1}}, delivering[27] = {1, 1, 0, 1, 0, 0, 0, 1};
     example();
     writes_and_meets();
     purges();
@@ -373,6 +308,6 @@ int main(void) {
     soundness();
     for (int f = 0; f < 4; f++)
         for (int k = 0; k < 7; k++) expect(!!met[f][k] == possible[f][k], "refusals", "each that a call can give was met, and no other");
-    for (int k = 0; k < 8; k++) expect(!!met_delivering[k] == delivering[k], "refusals", "each that a delivery can give was met, and no other");
+    for (int k = 0; k < 27; k++) expect(!!met_delivering[k] == delivering[k], "refusals", "each that a delivery can give was met, and no other");
     return told("tables");
 }

@@ -23,6 +23,7 @@ uint32_t plain_apply_line(uint32_t *, size_t, const uint8_t *, size_t, uint32_t 
 uint32_t plain_apply_lines(uint32_t *, size_t, const uint8_t *, size_t, size_t *, size_t *, size_t *, size_t *);
 uint32_t plain_summary(const uint32_t *, size_t, uint8_t, uint8_t);
 uint32_t plain_acknowledgement(const uint32_t *, size_t, uint8_t, uint8_t);
+uint32_t plain_column(const uint32_t *, size_t, uint8_t, uint8_t, uint8_t);
 uint32_t plain_held(const uint32_t *, size_t, uint8_t);
 uint32_t plain_mark(const uint32_t *, size_t, uint8_t);
 uint32_t plain_record(const uint32_t *, size_t, uint8_t, uint32_t, uint32_t);

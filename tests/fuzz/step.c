@@ -1,9 +1,9 @@
-/* Write, session, purge and delivery, by their fields and as lines, the count and the looks, on an arbitrary table: one of any length whose
- * words come from the data, then steps; the same replies, counts and words as the plain version. */
+/* Write, session, purge and delivery, by their fields and as lines, the count and the looks, on an arbitrary table: one of either form or of any length
+ * whose words come from the data, then steps; the same replies, counts and words as the plain version. */
 #include "fuzz.h"
 
 static struct part table_part, text_part, list_part;
-static uint32_t plain[8192], listed[300];
+static uint32_t plain[12288], listed[300];
 static uint8_t made[512];
 
 /* The data, read as numbers from its front; zero when it is used up. */
@@ -21,29 +21,42 @@ static uint32_t number(size_t bytes)
     return x;
 }
 
-/* Fills a table: most often the right length, a right count and sound rows, then a few words at will. */
+/* Columns by which records leave: entries at the timestamp of one of the node's records, a little more or one less. */
+static void know(uint32_t n)
+{
+    for (uint32_t p = 0; p < n; p++)
+        for (uint32_t o = 0; o < n; o++) {
+            uint32_t about = plain[FURTHER + record_at(p, number(1) % ROOM, 1)];
+            for (uint32_t q = 0; q < n; q++)
+                plain[column_at(p, q, o)] = about + (plain[column_at(p, q, o)] & 7) - 1;
+        }
+}
+
+/* Fills a table: most often a right length, a right count and sound rows, then a few words at will. */
 static size_t fill(void)
 {
-    uint32_t how = number(1), state = number(4) | 1;
-    size_t length = how % 32 == 31 ? number(2) % 8192 : POLLENCART_TABLE;
+    uint32_t how = number(1), state = number(4) | 1, form = number(1);
+    size_t length = how % 32 == 31 ? number(2) % 12288 : form & 1 ? POLLENCART_COLUMN_TABLE : POLLENCART_TABLE;
     for (size_t i = 0; i < length; i++) {
         state = state * 1664525u + 1013904223u;
         plain[i] = how & 32 ? state >> 28 : state;
     }
-    if (length != POLLENCART_TABLE)
+    if (length != POLLENCART_TABLE && length != POLLENCART_COLUMN_TABLE)
         return length;
-    uint32_t n = plain[COUNT] = 2 + number(1) % (NODES - 1);
+    uint32_t n = plain[COUNT] = 2 + number(1) % (NODES - 1), *behind = plain + (length - POLLENCART_TABLE);
     for (uint32_t p = 0; p < n; p++) {
-        uint32_t held = plain[held_at(p)] = number(1) % (ROOM + 1);
+        uint32_t held = behind[held_at(p)] = number(1) % (ROOM + 1);
         for (uint32_t i = 0; i < held; i++) {
-            uint32_t *verdict = plain + record_at(p, i, 3);
-            plain[record_at(p, i, 0)] %= n, *verdict = how & 32 ? *verdict << 4 : *verdict & 255; /* every class either way */
+            uint32_t *verdict = behind + record_at(p, i, 3);
+            behind[record_at(p, i, 0)] %= n, *verdict = how & 32 ? *verdict << 4 : *verdict & 255; /* every class either way */
             if (how & 128)
-                plain[record_at(p, i, 2)] &= 7; /* blocks that were read often */
+                behind[record_at(p, i, 2)] &= 7; /* blocks that were read often */
         }
     }
+    if ((form & 3) == 3 && length == POLLENCART_COLUMN_TABLE)
+        know(n);
     for (uint32_t many = number(1) % 8; many; many--) {
-        uint32_t at = number(2) % POLLENCART_TABLE;
+        uint32_t at = number(2) % (uint32_t)length;
         plain[at] = how & 64 ? number(4) : number(1);
     }
     return length;
@@ -135,6 +148,7 @@ static void call(uint32_t *table, size_t length)
     } else {
         same(pollencart_summary(table, length, p, q) == plain_summary(plain, length, p, q), "summary");
         same(pollencart_acknowledgement(table, length, p, q) == plain_acknowledgement(plain, length, p, q), "acknowledgement");
+        same(pollencart_column(table, length, p, q, (uint8_t)y) == plain_column(plain, length, p, q, (uint8_t)y), "column");
         same(pollencart_held(table, length, p) == plain_held(plain, length, p), "held");
         same(pollencart_mark(table, length, p) == plain_mark(plain, length, p), "mark");
         same(pollencart_record(table, length, p, x, y % 6) == plain_record(plain, length, p, x, y % 6), "record");

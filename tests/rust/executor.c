@@ -189,11 +189,12 @@ static uint32_t *count(uint32_t op, const uint32_t *c, uint32_t *out)
 
 static uint32_t *look(const uint32_t *c, uint32_t *out)
 {
-    *out++ = pollencart_summary(table, length, (uint8_t)c[0], (uint8_t)c[1]);
-    *out++ = pollencart_acknowledgement(table, length, (uint8_t)c[0], (uint8_t)c[1]);
+    *out++ = pollencart_summary(table, length, (uint8_t)c[0], (uint8_t)c[2]);
+    *out++ = pollencart_acknowledgement(table, length, (uint8_t)c[0], (uint8_t)c[2]);
+    *out++ = pollencart_column(table, length, (uint8_t)c[0], (uint8_t)c[1], (uint8_t)c[2]);
     *out++ = pollencart_held(table, length, (uint8_t)c[0]);
     *out++ = pollencart_mark(table, length, (uint8_t)c[0]);
-    *out++ = pollencart_record(table, length, (uint8_t)c[0], c[2], c[3]);
+    *out++ = pollencart_record(table, length, (uint8_t)c[0], c[3], c[4]);
     return put(out, table, 4 * (size_t)length);
 }
 
@@ -202,7 +203,7 @@ static size_t execute(const uint32_t *c, uint32_t *answers)
 {
     uint32_t *out = answers;
     if (!the_table.guard) {
-        prepare(&the_table, 4 * 8192), prepare(&the_bytes, 262144), prepare(&the_list, 4 * 8192), prepare(&the_out, 65536);
+        prepare(&the_table, 4 * 12288), prepare(&the_bytes, 262144), prepare(&the_list, 4 * 12288), prepare(&the_out, 65536);
     }
     for (;; ) {
         uint32_t op = *c++;
@@ -222,7 +223,7 @@ static size_t execute(const uint32_t *c, uint32_t *answers)
         case REPLAY: out = replay(c, out), c += 3 + (c[0] + 3) / 4; break;
         case COUNT:
         case COUNT_NODE: out = count(op, c, out), c += op == COUNT ? 1 + c[0] : 1; break;
-        case LOOK: out = look(c, out), c += 4; break;
+        case LOOK: out = look(c, out), c += 5; break;
         case APPLY_LINE:
         case APPLY_LINES: out = apply(op, c + 1, c[0], out), c += 1 + (c[0] + 3) / 4; break;
         case POKE:

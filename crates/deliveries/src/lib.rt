@@ -1,4 +1,4 @@
-// Delivery: what is due at a node goes into a lent list, in the order that is the same everywhere, and its mark rises. Document 02, T-04.
+// Delivery: what is due at a node goes into a lent list, in the order that is the same everywhere, and its mark rises. Document 02, T-04 and T-06.
 // Inner functions: what they require, `deliver` shows; what `deliver` requires, the table's entry points show.
 ghost use mathlib.Core.Path.{_≡_};
 ghost use Prim.Native.Nat.{_*_, _≤_, _<_};
@@ -8,6 +8,7 @@ ghost use Rattle.meaning.specs.declared.Action.the-variants.{Deliver};
 ghost use Rattle.meaning.specs.Rows.{due, inOrder, least, words};
 ghost use Rattle.meaning.specs.Table.{logMost, count, node, place, putMark, Sound};
 ghost use Rattle.meaning.specs.Node.{raised};
+ghost use Rattle.meaning.specs.Steps.{refusal};
 ghost use Rattle.looks.specs.Applied.{Applied};
 ghost use Rattle.deliveries.specs.Lent.{Lent};
 use lists::due_count;
@@ -24,7 +25,7 @@ fn low_of(t: &[u32], p: usize, n: usize) -> u32
     requires { ⌜ Sound (now t) × (p < count (now t)) × (n ≡ count (now t)) ⌝ }
     ensures { λ r. ⌜ r ≡ least (node (now (t .entry)) p .summary) ⌝ }
 {
-    let at = layout::summary_at(p);
+    let at = layout::summary_at(t, p);
     let end = at + n;
     let low = least_with(&t[at..end], 0, t[at]);
     low.value
@@ -38,7 +39,7 @@ fn due_of(t: &[u32], p: usize, held: usize, mark: u32, limit: u32) -> usize
     if limit <= mark {
         return 0;
     }
-    let at = layout::log_at(p);
+    let at = layout::log_at(t, p);
     let end = at + layout::LOG_WORDS;
     due_count(&t[at..end], held, mark, limit)
 }
@@ -62,7 +63,7 @@ fn fill(t: &[u32], list: &mut [u32], p: usize, held: usize, mark: u32, limit: u3
     ensures { λ r. ⌜ (r ≡ length (due mark limit (node (now (t .entry)) p .log))) × (r ≤ held) ⌝ }
     ensures { λ _. ⌜ now (list .exit) ≡ place 0 (words (inOrder (due mark limit (node (now (t .entry)) p .log)))) (now (list .entry)) ⌝ }
 {
-    let at = layout::log_at(p);
+    let at = layout::log_at(t, p);
     let end = at + layout::LOG_WORDS;
     give(list, &t[at..end], held, mark, limit)
 }
@@ -73,19 +74,35 @@ fn raise_mark(t: &mut [u32], p: usize, mark: u32, limit: u32)
     ensures { λ _. ⌜ now (t .exit) ≡ putMark p (raised mark (node (now (t .entry)) p)) (now (t .entry)) ⌝ }
 {
     if mark < limit {
-        put_word(t, layout::mark_at(p), limit);
+        let at = layout::mark_at(t, p);
+        put_word(t, at, limit);
     }
 }
 
-// A delivery on a sound table into a lent list of any length, refused with 3 or 7 or done. Room is asked before a word is written.
+// What a delivery meets with any list: a node out of range gives 3, and "a delivery on a column table gives 26, after 3"; 0 is neither.
+fn refusal_of(t: &[u32], p: usize, n: usize) -> u32
+    requires { ⌜ Sound (now t) × (n ≡ count (now t)) ⌝ }
+    ensures { λ r. ⌜ r ≡ refusal (now (t .entry)) (Deliver p) ⌝ }
+{
+    if n <= p {
+        return 3;
+    }
+    if layout::has_columns(t) {
+        return 26;
+    }
+    0
+}
+
+// A delivery on a sound table into a lent list of any length, refused with 3, 26 or 7 or done. Room is asked before a word is written.
 pub fn deliver(t: &mut [u32], list: &mut [u32], node: u8) -> Reply
     requires { ⌜ Sound (now t) ⌝ }
     ensures { λ r. ⌜ Lent (now (t .entry)) (now (list .entry)) node r (now (t .exit)) (now (list .exit)) ⌝ }
 {
     let p = node as usize;
     let n = nodes_of(t);
-    if n <= p {
-        return Reply::Refused { number: 3 };
+    let number = refusal_of(t, p, n);
+    if number != 0 {
+        return Reply::Refused { number };
     }
     let held = held_of(t, p);
     let mark = mark_of(t, p);
@@ -106,8 +123,9 @@ pub fn deliver_alone(t: &mut [u32], node: u8) -> Reply
 {
     let p = node as usize;
     let nodes = nodes_of(t);
-    if nodes <= p {
-        return Reply::Refused { number: 3 };
+    let number = refusal_of(t, p, nodes);
+    if number != 0 {
+        return Reply::Refused { number };
     }
     let held = held_of(t, p);
     let mark = mark_of(t, p);

@@ -1,5 +1,5 @@
 // What a case prints: its name, then what the library answered.
-ghost use Prim.Native.Nat.{_≤_};
+ghost use Prim.Native.Nat.{_≤_, _<_};
 ghost use Rattle.meaning.specs.Table.{nodesMost};
 use meaning::Line;
 use meaning::Reply;
@@ -44,12 +44,22 @@ fn nodes(t: &[u32]) -> usize
     }
 }
 
+// A node's held number, 0 where the length is no table's.
+fn held_by(t: &[u32], p: usize) -> u32
+    requires { ⌜ p < nodesMost ⌝ }
+{
+    if !layout::is_long(t) {
+        return 0;
+    }
+    layout::held_of(t, p)
+}
+
 // Each node's held number.
 fn held(t: &[u32]) {
     let n = nodes(t);
     let mut p: usize = 0;
     while p < n {
-        field(b" ", word(t, layout::held_at(p)));
+        field(b" ", held_by(t, p));
         p += 1;
     }
 }

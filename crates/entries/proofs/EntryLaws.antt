@@ -9,11 +9,32 @@ use lib.ListN.{length, getD, List·getD-eq-default}
 use lib.Dec.{ltb}
 use Rattle.meaning.specs.declared.Record.{Record}
 use Rattle.meaning.specs.Rows.{recordAt, words}
-use Rattle.meaning.specs.Table.{nodesMost, logMost, summaryAt, acksAt, logAt, markAt, part, count, held, mark, node, sound, Sound}
+use Rattle.meaning.specs.Table.{
+  Vectors,
+  Columns,
+  formOf,
+  formWords,
+  columnsWide,
+  columnAt,
+  nodesMost,
+  logMost,
+  summaryAt,
+  acksAt,
+  logAt,
+  markAt,
+  part,
+  count,
+  held,
+  mark,
+  node,
+  sound,
+  Sound,
+}
 use Rattle.meaning.proofs.PlaceLaws.{getD-part, length-part}
 use Rattle.meaning.proofs.RowLaws.{and-left, and-right, getD-records}
-use Rattle.meaning.proofs.TableLaws.{sound-facts, held-log}
-use Rattle.entries.specs.Entries.{present, summaryEntry, ackEntry, heldNumber, nothing, recordWord, markEntry}
+use Rattle.meaning.proofs.ColumnLaws.{getD-columns}
+use Rattle.meaning.proofs.TableLaws.{sound-facts, held-log, node-columns}
+use Rattle.entries.specs.Entries.{present, summaryEntry, ackEntry, columnEntry, heldNumber, nothing, recordWord, markEntry}
 
 -- an entry of a row of n, by the test of the place
 pub entry-in : (t : List ℕ) (at n o : ℕ) → o < n → getD t (at + o) 0 ≡ getD (part at n t) o 0
@@ -75,11 +96,25 @@ module _ (t : List ℕ) (p : ℕ) where
       let b = is-sound h .high in
       omega arith
 
+  -- the rows that begin at their places
+  pub acks-fit : (at : ℕ) → present t p ≡ true → formOf t ≡ Vectors → at ≡ acksAt p → at + nodesMost ≤ length t
+  acks-fit at h f e =
+      let l = is-sound h .long ∙ ap formWords f in
+      let b = below h in
+      omega arith
+
+  pub column-fits : (at q : ℕ) → present t p ≡ true → formOf t ≡ Columns → q < count t → at ≡ columnAt p q → at + nodesMost ≤ length t
+  column-fits at q h f w e =
+      let l = is-sound h .long ∙ ap formWords f in
+      let b = below h in
+      let n = is-sound h .high in
+      omega arith
+
   pub no-summary : (o : ℕ) → present t p ≡ false → 0 ≡ summaryEntry t p o
   unfolding summaryEntry
   no-summary o h = rw h
 
-  pub summary-is : (at o r : ℕ) → present t p ≡ true → at ≡ summaryAt p → r ≡ getD (part at (count t) t) o 0 → r ≡ summaryEntry t p o
+  pub summary-is : (at o r : ℕ) → present t p ≡ true → at ≡ summaryAt (formOf t) p → r ≡ getD (part at (count t) t) o 0 → r ≡ summaryEntry t p o
   unfolding summaryEntry node
   summary-is at o r h e q = rw h (q ∙ ap (λ (a : ℕ). getD (part a (count t) t) o 0) e)
 
@@ -87,9 +122,39 @@ module _ (t : List ℕ) (p : ℕ) where
   unfolding ackEntry
   no-ack o h = rw h
 
-  pub ack-is : (at o r : ℕ) → present t p ≡ true → at ≡ acksAt p → r ≡ getD (part at (count t) t) o 0 → r ≡ ackEntry t p o
+  pub ack-none : (o : ℕ) → present t p ≡ true → formOf t ≡ Columns → 0 ≡ ackEntry t p o
+  unfolding ackEntry node part
+  ack-none o h f = rw (h, f) refl
+
+  pub ack-is : (at o r : ℕ) → present t p ≡ true → formOf t ≡ Vectors → at ≡ acksAt p → r ≡ getD (part at (count t) t) o 0 → r ≡ ackEntry t p o
   unfolding ackEntry node
-  ack-is at o r h e q = rw h (q ∙ ap (λ (a : ℕ). getD (part a (count t) t) o 0) e)
+  ack-is at o r h f e q = rw (h, f) (q ∙ ap (λ (a : ℕ). getD (part a (count t) t) o 0) e)
+
+  module _ (q o : ℕ) where
+    pub no-column : present t p ≡ false → 0 ≡ columnEntry t p q o
+    unfolding columnEntry
+    no-column h = rw h
+
+    -- a column that the node has not: any of a table of vectors, or one at or beyond n
+    pub column-beyond : present t p ≡ true → columnsWide (formOf t) (count t) ≤ q → 0 ≡ columnEntry t p q o
+    unfolding columnEntry
+    column-beyond h w =
+        let l = node-columns t p in
+        let b : length (node t p .columns) ≤ q = omega arith in
+        rw (h, List·getD-eq-default (node t p .columns) [] b) refl
+
+    pub column-none : present t p ≡ true → formOf t ≡ Vectors → 0 ≡ columnEntry t p q o
+    column-none h f = column-beyond h (rw f (omega arith))
+
+    pub column-out : present t p ≡ true → formOf t ≡ Columns → count t ≤ q → 0 ≡ columnEntry t p q o
+    column-out h f w = column-beyond h (rw f w)
+
+    pub column-is :
+        (at r : ℕ) → present t p ≡ true → formOf t ≡ Columns → q < count t → at ≡ columnAt p q → r ≡ getD (part at (count t) t) o 0 →
+        r ≡ columnEntry t p q o
+    unfolding columnEntry node
+    column-is at r h f w e g =
+        rw (h, f) (g ∙ ap (λ (c : List ℕ). getD c o 0) (sym (getD-columns (count t) (columnAt p 0) (count t) t q at w (omega arith))))
 
   pub no-held : present t p ≡ false → 0 ≡ heldNumber t p
   unfolding heldNumber
@@ -103,7 +168,7 @@ module _ (t : List ℕ) (p : ℕ) where
   unfolding markEntry
   no-mark h = rw h
 
-  pub mark-is : (at : ℕ) → present t p ≡ true → at ≡ markAt p → getD t at 0 ≡ markEntry t p
+  pub mark-is : (at : ℕ) → present t p ≡ true → at ≡ markAt (formOf t) p → getD t at 0 ≡ markEntry t p
   unfolding markEntry mark
   mark-is at h e = rw h (ap (λ (i : ℕ). getD t i 0) e)
 
@@ -123,10 +188,10 @@ module _ (t : List ℕ) (p : ℕ) where
     unfolding recordWord
     word-beyond h q = rw h (no-word (getD (node t p .log) i nothing) k q)
 
-    pub record-is : (n at : ℕ) → present t p ≡ true → n ≡ held t p → i < n → k ≤ 3 → at ≡ logAt p → getD t (at + 4 * i + k) 0 ≡ recordWord t p i k
+    pub record-is : (n at : ℕ) → present t p ≡ true → n ≡ held t p → i < n → k ≤ 3 → at ≡ logAt (formOf t) p → getD t (at + 4 * i + k) 0 ≡ recordWord t p i k
     unfolding recordWord node
     record-is n at h e q m a =
         let r = is-sound h .room p (is-node h) in
-        let w = part (logAt p) (4 * logMost) t in
+        let w = part (logAt (formOf t) p) (4 * logMost) t in
         rw (h, getD-records (held t p) w i (omega arith))
-        (sym (getD-part (logAt p) (4 * logMost) t (4 * i + k) (at + 4 * i + k) (omega arith) (omega arith)) ∙ word-at w i k m)
+        (sym (getD-part (logAt (formOf t) p) (4 * logMost) t (4 * i + k) (at + 4 * i + k) (omega arith) (omega arith)) ∙ word-at w i k m)

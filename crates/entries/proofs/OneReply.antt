@@ -5,6 +5,8 @@ use Rattle.entries.proofs.summary_of.Kinds as summary-kinds
 use Rattle.entries.proofs.summary_of.Reads as summary
 use Rattle.entries.proofs.ack_of.Kinds as ack-kinds
 use Rattle.entries.proofs.ack_of.Reads as ack
+use Rattle.entries.proofs.column_of.Kinds as column-kinds
+use Rattle.entries.proofs.column_of.Reads as column
 use Rattle.entries.proofs.held_number.Kinds as held-kinds
 use Rattle.entries.proofs.held_number.Reads as held
 use Rattle.entries.proofs.record_word.Kinds as word-kinds
@@ -17,6 +19,9 @@ one-summary-entry κs a x y s s' p q = p ∙ sym q
 
 pub one-ack-entry : OneResult 1 ack-kinds.ps ack-kinds.r ack.Post
 one-ack-entry κs a x y s s' p q = p ∙ sym q
+
+pub one-column-entry : OneResult 1 column-kinds.ps column-kinds.r column.Post
+one-column-entry κs a x y s s' p q = p ∙ sym q
 
 pub one-held-number : OneResult 1 held-kinds.ps held-kinds.r held.Post
 one-held-number κs a x y s s' p q = p ∙ sym q

@@ -12,13 +12,17 @@ use Rattle.meaning.specs.Table.{count, mark, node, sound}
 unfoldable pub present : List ℕ → ℕ → Bool
 present t p = sound t && ltb p (count t)
 
--- "row p, entry o: node p has every record of node o up to this timestamp"; a row has n entries
+-- "row p, entry o: node p has every record of node o up to this timestamp"; a row has n entries, and on columns it is the node's own column
 unfoldable pub summaryEntry : List ℕ → ℕ → ℕ → ℕ
 summaryEntry t p o = cond (present t p) (getD (node t p .summary) o 0) 0
 
--- "row p, entry q: what p knows that q has acknowledged"; a row has n entries
+-- "row p, entry q: what p knows that q has acknowledged"; a row has n entries, and none on columns
 unfoldable pub ackEntry : List ℕ → ℕ → ℕ → ℕ
 ackEntry t p q = cond (present t p) (getD (node t p .acks) q 0) 0
+
+-- "each node keeps a column of summary entries for every node": p's column for q, entry o; n columns of n entries, and none on vectors
+unfoldable pub columnEntry : List ℕ → ℕ → ℕ → ℕ → ℕ
+columnEntry t p q o = cond (present t p) (getD (getD (node t p .columns) q []) o 0) 0
 
 -- "records in each node's log"
 unfoldable pub heldNumber : List ℕ → ℕ → ℕ

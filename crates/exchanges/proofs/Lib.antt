@@ -1,1 +1,2 @@
+pub mod AgainLaws
 pub mod Trade

@@ -14,13 +14,13 @@ use Rattle.meaning.specs.declared.Action.the-variants.{Write, Session, Purge, D
 use Rattle.meaning.specs.declared.Step.{Step}
 use Rattle.meaning.specs.declared.Next.the-variants.{Act as ActAt, End}
 use Rattle.meaning.specs.declared.Progress.{Progress}
-use Rattle.meaning.specs.Table.{sound, Sound}
+use Rattle.meaning.specs.Table.{formOf, formWords, sound, Sound}
 use Rattle.meaning.specs.Steps.{refusal, after}
 use Rattle.meaning.specs.Journals.{Steps, broken, step∷, oneIf, nextIn, stepsFrom, afterAll, refusedOf}
 use Rattle.meaning.specs.Lines.{progress, unread, linesReply, linesAfter}
 use Rattle.meaning.proofs.Action as A
 use Rattle.meaning.proofs.Action.Laws as A′
-use Rattle.meaning.proofs.StepLaws.{verdictOf}
+use Rattle.meaning.proofs.StepLaws.{verdictOf, after-form}
 use Rattle.meaning.proofs.JournalLaws.{steps-act, steps-end}
 use Rattle.steplines.proofs.StepLineLaws.{one-most}
 use Rattle.turns.proofs.TurnLaws.{Taken}
@@ -81,6 +81,7 @@ pub record Reached (s : List ℕ) (from first : ℕ) (t₀ t : List ℕ) (at ste
   pub within : at ≤ length s
   pub few : refused ≤ steps
   pub isSound : Sound t
+  pub long : length t ≡ length t₀
   pub answer : progress t₀ (stepsFrom (length s) s from first) ≡ further steps refused t (stepsFrom (length s - steps) s at (first + steps))
   pub table : afterAll t₀ (stepsFrom (length s) s from first .steps) ≡ afterAll t (stepsFrom (length s - steps) s at (first + steps) .steps)
 
@@ -93,6 +94,7 @@ reached-start s from first t sound high =
       within = high;
       few = omega arith;
       isSound = sound;
+      long = refl;
       answer = rw (k, l) (further-none t (stepsFrom (length s) s from first));
       table = rw (k, l);
     }
@@ -140,6 +142,7 @@ module _ {s : List ℕ} {from first : ℕ} {t₀ t : List ℕ} {at steps refused
         within = high;
         few = omega (arith, x .few, d .one);
         isSound = d .isSound;
+        long = d .isSound .long ∙ ap formWords (ap formOf (d .leaves) ∙ after-form t (y .action)) ∙ sym (x .isSound .long) ∙ x .long;
         answer = rw l (sym (w .answer) ∙ further-step steps refused t y rest ∙ rw (d .counts, d .leaves));
         table = rw l (sym (w .table) ∙ after-step t y (rest .steps) ∙ rw (d .leaves));
       }

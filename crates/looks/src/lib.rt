@@ -25,7 +25,7 @@ pub fn own_of(t: &[u32], p: usize) -> u32
     requires { ⌜ Sound (now t) × (p < count (now t)) ⌝ }
     ensures { λ r. ⌜ r ≡ own p (node (now (t .entry)) p) ⌝ }
 {
-    let at = layout::summary_at(p) + p;
+    let at = layout::summary_at(t, p) + p;
     t[at]
 }
 
@@ -34,5 +34,5 @@ pub fn mark_of(t: &[u32], p: usize) -> u32
     requires { ⌜ Sound (now t) × (p < count (now t)) ⌝ }
     ensures { λ r. ⌜ r ≡ mark (now (t .entry)) p ⌝ }
 {
-    t[layout::mark_at(p)]
+    t[layout::mark_at(t, p)]
 }

@@ -1,4 +1,4 @@
--- What follows from demand 3 and its invariant in a few lines each, for every run from a fresh table.
+-- What follows from demand 3 and its invariant in a few lines each, for every run from a fresh table of either form.
 use mathlib.Core.Path.{_≡_, refl, sym, ap, _∙_}
 use mathlib.Core.Bool.{Bool, true, false, _&&_, _||_}
 use mathlib.Core.Logic.{_⊎_, inl, inr}
@@ -12,16 +12,15 @@ use Rattle.meaning.specs.declared.Action.{Action}
 use Rattle.meaning.specs.declared.Action.the-variants.{Write, Session, Purge, Deliver}
 use Rattle.meaning.specs.declared.Step.{Step}
 use Rattle.meaning.specs.Rows.{all, covers}
-use Rattle.meaning.specs.Table.{nodesMost, count, node, fresh, Sound}
-use Rattle.meaning.specs.Node.{purged}
-use Rattle.meaning.specs.Steps.{finishesA, finishesB, refusal, limit}
+use Rattle.meaning.specs.Table.{Form, formOf, nodesMost, count, node, fresh, Sound}
+use Rattle.meaning.specs.Node.{purged, know}
+use Rattle.meaning.specs.Steps.{finishesA, finishesB, refusal, leaving}
 use Rattle.meaning.specs.Frames.{journalKinds, widthsIn, wide}
 use Rattle.meaning.specs.Journals.{afterAll}
 use Rattle.meaning.specs.Account.{
   has,
   lacking,
   Account,
-  nothing,
   gains,
   gainsIf,
   noted,
@@ -33,6 +32,7 @@ use Rattle.meaning.specs.Account.{
   events,
   befell,
   ran,
+  begun,
   run,
 }
 use Rattle.meaning.proofs.RowLaws.{and-left, and-right, and-both}
@@ -40,58 +40,61 @@ use Rattle.meaning.proofs.AccountLaws.{by-test, has-append, sublist-has
 use Rattle.meaning.proofs.AccountInvariant.{log-written}
 use Rattle.meaning.proofs.AccountNodes.{purged-dropping}
 use Rattle.meaning.proofs.StepLaws.{verdictOf, after-sound, fresh-sound}
-use Rattle.meaning.proofs.AccountTable.{Sure, limit-low, sure-run}
+use Rattle.meaning.proofs.AccountTable.{Sure, leaving-low, sure-run}
 use Rattle.meaning.proofs.Demand3.{demand3}
 
-module _ (n : ℕ) (lo : 2 ≤ n) (hi : n ≤ nodesMost) (es : List Event) where
-  sure : Sure n (run n es)
-  sure = sure-run n lo hi es
+module _ (f : Form) (n : ℕ) (lo : 2 ≤ n) (hi : n ≤ nodesMost) (es : List Event) where
+  sure : Sure n (run f n es)
+  sure = sure-run f n lo hi es
 
   -- the table keeps its number of nodes
-  pub run-count : count (run n es .table) ≡ n
+  pub run-count : count (run f n es .table) ≡ n
   run-count = sure .counted
 
   module _ (p : ℕ) (below : p < n) (r : Record) where
     -- a record in a log is one that was written, word for word
-    pub held-written : has r (node (run n es .table) p .log) ≡ true → has r (run n es .account .written) ≡ true
+    pub held-written : has r (node (run f n es .table) p .log) ≡ true → has r (run f n es .account .written) ≡ true
     held-written h =
-        log-written n _ (node (run n es .table) p .summary) (node (run n es .table) p .log) (run n es .account .of p) r (sure .whole .holds p below .kept) h
+        log-written n _ (node (run f n es .table) p .summary) (node (run f n es .table) p .log) (run f n es .account .of p) r
+        (sure .whole .holds p below .kept) h
 
     -- a record that a purge of p removes is in every node's account
     pub purge-known :
-        has r (node (run n es .table) p .log) ≡ true → has r (purged (limit (run n es .table) p) (node (run n es .table) p) .log) ≡ false →
-        (q : ℕ) → q < n → has r (run n es .account .of q) ≡ true
+        has r (node (run f n es .table) p .log) ≡ true → has r (purged (leaving (run f n es .table) p) (node (run f n es .table) p) .log) ≡ false →
+        (q : ℕ) → q < n → has r (run f n es .account .of q) ≡ true
     purge-known h gone q j =
         let w = held-written h in
         let k = sure .whole .holds p below in
+        let t = run f n es .table in
+        let e = sure .counted in
         let dropping =
-        purged-dropping n _ (limit (run n es .table) p) (node (run n es .table) p) (run n es .account .of p) (sure .whole .stamped) (k .kept) (k .acked)
-        (limit-low _ p n (k .acked .wide))
+        purged-dropping n _ (leaving t p) (know (formOf t) (node t p)) (node t p) (run f n es .account .of p) (sure .whole .stamped) (k .kept) (k .acked)
+        (λ x l i g. leaving-low t p (sure .long) (omega arith) (omega arith) x l i (omega arith))
         in
         let c = dropping .gone r h gone q j in
-        sure .whole .holds q j .kept .exact r ∙ and-both (has r (run n es .account .written)) (covers (node (run n es .table) q .summary) r) w c
+        sure .whole .holds q j .kept .exact r ∙ and-both (has r (run f n es .account .written)) (covers (node (run f n es .table) q .summary) r) w c
 
   -- a written record is held in its writer's log, or it is in every node's account
-  pub written-somewhere : (r : Record) → has r (run n es .account .written) ≡ true →
-      ((r .origin < n) × (has r (node (run n es .table) (r .origin) .log) ≡ true)) ⊎ ((q : ℕ) → q < n → has r (run n es .account .of q) ≡ true)
+  pub written-somewhere : (r : Record) → has r (run f n es .account .written) ≡ true →
+      ((r .origin < n) × (has r (node (run f n es .table) (r .origin) .log) ≡ true)) ⊎ ((q : ℕ) → q < n → has r (run f n es .account .of q) ≡ true)
   written-somewhere r w =
       let o = sure .whole .stamped .origin r w in
       let k = sure .whole .holds (r .origin) o .kept in
-      let c = le-covers (node (run n es .table) (r .origin) .summary) r (sure .whole .stamped .reached r w) in
-      let a = k .exact r ∙ and-both (has r (run n es .account .written)) (covers (node (run n es .table) (r .origin) .summary) r) w c in
-      by-test (has r (node (run n es .table) (r .origin) .log)) (λ h. inl (o, h)) (λ h. inr (demand3 n lo hi es (r .origin) o .missing r a h))
+      let c = le-covers (node (run f n es .table) (r .origin) .summary) r (sure .whole .stamped .reached r w) in
+      let a = k .exact r ∙ and-both (has r (run f n es .account .written)) (covers (node (run f n es .table) (r .origin) .summary) r) w c in
+      by-test (has r (node (run f n es .table) (r .origin) .log)) (λ h. inl (o, h)) (λ h. inr (demand3 f n lo hi es (r .origin) o .missing r a h))
 
   -- no record is written twice, and two written records of one writer and one timestamp are one
-  pub written-once : List·Nodup (run n es .account .written)
+  pub written-once : List·Nodup (run f n es .account .written)
   written-once = sure .whole .once
 
-  pub written-single : (r s : Record) → has r (run n es .account .written) ≡ true → has s (run n es .account .written) ≡ true → r .origin ≡ s .origin →
+  pub written-single : (r s : Record) → has r (run f n es .account .written) ≡ true → has s (run f n es .account .written) ≡ true → r .origin ≡ s .origin →
       r .timestamp ≡ s .timestamp → r ≡ s
   written-single = sure .whole .stamped .single
 
   -- a node's log never holds one record twice
-  pub log-once : (p : ℕ) → p < n → List·Nodup (node (run n es .table) p .log)
-  log-once p h = Pairwise·sublistᴰ (demand3 n lo hi es p h .less) (demand3 n lo hi es p h .once)
+  pub log-once : (p : ℕ) → p < n → List·Nodup (node (run f n es .table) p .log)
+  log-once p h = Pairwise·sublistᴰ (demand3 f n lo hi es p h .less) (demand3 f n lo hi es p h .once)
 
 -- A list of events after another, so that whatever holds of every list holds after every event of a longer one.
 pub ran-append : (x : Run) (es fs : List Event) → ran x (es ++ fs) ≡ ran (ran x es) fs
@@ -99,9 +102,9 @@ unfolding ran
 ran-append x [] fs = refl
 ran-append x (e ∷ es) fs = ran-append (befell x e) es fs
 
-pub run-append : (n : ℕ) (es fs : List Event) → run n (es ++ fs) ≡ ran (run n es) fs
+pub run-append : (f : Form) (n : ℕ) (es fs : List Event) → run f n (es ++ fs) ≡ ran (run f n es) fs
 unfolding run
-run-append n es fs = ran-append (record { table = fresh n; account = nothing }) es fs
+run-append f n es fs = ran-append (begun f n) es fs
 
 -- The table of a run of steps is the table after all of them, as the journals' definitions have it.
 pub ran-table : (x : Run) (ss : List Step) → ran x (events ss) .table ≡ afterAll (x .table) ss
@@ -109,9 +112,9 @@ unfolding ran befell afterAll stepped
 ran-table x [] = refl
 ran-table x (s ∷ ss) = ran-table (stepped x s) ss
 
-pub run-table : (n : ℕ) (ss : List Step) → run n (events ss) .table ≡ afterAll (fresh n) ss
+pub run-table : (f : Form) (n : ℕ) (ss : List Step) → run f n (events ss) .table ≡ afterAll (fresh f n) ss
 unfolding run
-run-table n ss = ran-table (record { table = fresh n; account = nothing }) ss
+run-table f n ss = ran-table (begun f n) ss
 
 -- The account never drops a record: an event only puts records after those that an account has --------------------------------------------------------
 
@@ -152,18 +155,18 @@ never-dropped x (e ∷ es) q =
 
 -- A record that a log has held and no longer holds, at whatever later point, is by then in every node's account.
 pub left-known :
-    (n : ℕ) → 2 ≤ n → n ≤ nodesMost → (es fs : List Event) (p : ℕ) → p < n → (r : Record) → has r (node (run n es .table) p .log) ≡ true →
-    has r (node (run n (es ++ fs) .table) p .log) ≡ false → (q : ℕ) → q < n → has r (run n (es ++ fs) .account .of q) ≡ true
-left-known n lo hi es fs p below r h gone =
-    let a = sublist-has (node (run n es .table) p .log) (run n es .account .of p) r (demand3 n lo hi es p below .less) h in
-    let m = never-dropped (run n es) fs p in
-    let b : has r (run n (es ++ fs) .account .of p) ≡ true =
-    ap (λ (x : Run). has r (x .account .of p)) (run-append n es fs) ∙
+    (f : Form) (n : ℕ) → 2 ≤ n → n ≤ nodesMost → (es fs : List Event) (p : ℕ) → p < n → (r : Record) → has r (node (run f n es .table) p .log) ≡ true →
+    has r (node (run f n (es ++ fs) .table) p .log) ≡ false → (q : ℕ) → q < n → has r (run f n (es ++ fs) .account .of q) ≡ true
+left-known f n lo hi es fs p below r h gone =
+    let a = sublist-has (node (run f n es .table) p .log) (run f n es .account .of p) r (demand3 f n lo hi es p below .less) h in
+    let m = never-dropped (run f n es) fs p in
+    let b : has r (run f n (es ++ fs) .account .of p) ≡ true =
+    ap (λ (x : Run). has r (x .account .of p)) (run-append f n es fs) ∙
     ap (has r) (m .1) ∙
-    has-append r (run n es .account .of p) (m .0) ∙
+    has-append r (run f n es .account .of p) (m .0) ∙
     ap (λ (t : Bool). t || has r (m .0)) a
     in
-    demand3 n lo hi (es ++ fs) p below .missing r b gone
+    demand3 f n lo hi (es ++ fs) p below .missing r b gone
 
 -- Soundness at every point ---------------------------------------------------------------------------------------------------------------------
 
@@ -195,6 +198,6 @@ ran-sound x [] h k = k
 ran-sound x (e ∷ es) h k =
     ran-sound (befell x e) es (and-right (wideEvent e) (all wideEvent es) h) (befell-sound x e (and-left (wideEvent e) (all wideEvent es) h) k)
 
-pub run-sound : (n : ℕ) → 2 ≤ n → n ≤ nodesMost → (es : List Event) → all wideEvent es ≡ true → Sound (run n es .table)
+pub run-sound : (f : Form) (n : ℕ) → 2 ≤ n → n ≤ nodesMost → (es : List Event) → all wideEvent es ≡ true → Sound (run f n es .table)
 unfolding run
-run-sound n lo hi es h = ran-sound (record { table = fresh n; account = nothing }) es h (fresh-sound n lo hi)
+run-sound f n lo hi es h = ran-sound (begun f n) es h (fresh-sound f n lo hi)

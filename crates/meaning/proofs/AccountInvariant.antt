@@ -1,7 +1,7 @@
 -- What stays true of one node and its account, relative to what the cluster has written and summed up so far: the invariant of demand 3.
 -- It takes the node apart from the world, so that the starting values of a session have it in the world after the session, and a session
 -- needs no world in between. A new action shows `Grows` of its two worlds and, of each node that it changes, the facts of one of the records
--- `Reading`, `Acking`, `Raising`, `Taking`, `Writing`, `Dropping`; every other node has `kept-grows` and `acked-grows`. No proof here then moves.
+-- `Reading`, `Learning`, `Raising`, `Taking`, `Writing`, `Dropping`; every other node has `kept-grows` and `acked-grows`. No proof here then moves.
 use mathlib.Core.Path.{_≡_, sym, ap, _∙_, subst}
 use mathlib.Core.Bool.{true, false, not, _&&_, _||_}
 use mathlib.Core.Logic.{_≢_}
@@ -69,10 +69,10 @@ pub record Kept (n : ℕ) (w : World) (summary : List ℕ) (log account : List R
   pub less : Sublistᴰ log account
   pub known : (r : Record) → has r account ≡ true → has r log ≡ false → (q : ℕ) → q < n → covers (w .summary q) r ≡ true
 
--- A node's acknowledgements: n entries, that for q at most every entry of q's summary. This is what makes the purge right.
-pub record Acked (n : ℕ) (w : World) (acks : List ℕ) : Type 0 where
-  pub wide : length acks ≡ n
-  pub reached : (q o : ℕ) → q < n → o < n → entry acks q ≤ entry (w .summary q) o
+-- What a node knows: of q and o, a number that is at most q's summary entry for o. This is what makes the purge right. On vectors it is the
+-- acknowledgement of q, whatever o; on columns it is the entry for o of the column of q.
+pub record Acked (n : ℕ) (w : World) (known : ℕ → ℕ → ℕ) : Type 0 where
+  pub reached : (q o : ℕ) → q < n → o < n → known q o ≤ entry (w .summary q) o
 
 -- The world grows -------------------------------------------------------------------------------------------------------------------------
 
@@ -130,8 +130,8 @@ kept-grows n w v g s log l k =
         cc)
         (λ q. cc))
 
-pub acked-grows : (n : ℕ) (w v : World) → Grows n w v → (acks : List ℕ) → Acked n w acks → Acked n v acks
-acked-grows n w v g acks k = record { wide = k .wide; reached = λ q o h j. omega (arith, k .reached q o h j, g .summary q o h) }
+pub acked-grows : (n : ℕ) (w v : World) → Grows n w v → (known : ℕ → ℕ → ℕ) → Acked n w known → Acked n v known
+acked-grows n w v g known k = record { reached = λ q o h j. omega (arith, k .reached q o h j, g .summary q o h) }
 
 -- What a step may do to one node -------------------------------------------------------------------------------------------------------------------
 
@@ -142,11 +142,9 @@ pub record Reading (n : ℕ) (w : World) (p : ℕ) (s s′ : List ℕ) : Type 0 
   pub up : entry s p ≤ entry s′ p
   pub top : entry s′ p ≤ entry (w .summary p) p
 
--- The own acknowledgement p becomes a number that is at most every entry of p's summary; every other entry stays.
-pub record Acking (n : ℕ) (w : World) (p : ℕ) (a a′ : List ℕ) : Type 0 where
-  pub wide : length a′ ≡ n
-  pub others : (q : ℕ) → (q ≡ p → ⊥) → entry a′ q ≡ entry a q
-  pub under : (o : ℕ) → o < n → entry a′ p ≤ entry (w .summary p) o
+-- What a node knows afterwards is no more than what it knew, what a partner knew, or what the world's summary of that node has.
+pub record Learning (n : ℕ) (w : World) (known theirs known′ : ℕ → ℕ → ℕ) : Type 0 where
+  pub most : (q o : ℕ) → q < n → o < n → known′ q o ≤ max (max (known q o) (theirs q o)) (entry (w .summary q) o)
 
 -- A row takes, entry by entry, the greater of its own and a partner's.
 pub record Raising (n : ℕ) (s t s′ : List ℕ) : Type 0 where
@@ -209,19 +207,10 @@ kept-reading n w p s s′ log l f all k =
         let g = covers-same s′ s r (f .others (r .origin) (eqb-false (r .origin) p o)) in
         cc)
 
-pub acked-acking : (n : ℕ) (w : World) (p : ℕ) (a a′ : List ℕ) → Acking n w p a a′ → Acked n w a → Acked n w a′
-acked-acking n w p a a′ f k =
-    record {
-      wide = f .wide;
-      reached = λ q o h j.
-          by-test (eqb q p)
-          (λ e. subst (λ (i : ℕ). entry a′ i ≤ entry (w .summary i) o) (sym (eqb-true q p e)) (f .under o j))
-          (λ e. omega (arith, f .others q (eqb-false q p e), k .reached q o h j));
-    }
-
-pub acked-raising : (n : ℕ) (w : World) (a b a′ : List ℕ) → Raising n a b a′ → Acked n w a → Acked n w b → Acked n w a′
-acked-raising n w a b a′ f mine theirs =
-    record { wide = f .wide; reached = λ q o h j. omega (arith, f .greater q, mine .reached q o h j, theirs .reached q o h j) }
+pub acked-learning :
+    (n : ℕ) (w : World) (known theirs known′ : ℕ → ℕ → ℕ) → Learning n w known theirs known′ → Acked n w known → Acked n w theirs → Acked n w known′
+acked-learning n w known theirs known′ f mine other =
+    record { reached = λ q o h j. omega (arith, f .most q o h j, mine .reached q o h j, other .reached q o h j) }
 
 -- A side that finishes: its account gains what the partner's held and it lacked.
 pub kept-taking : (n : ℕ) (w : World) (s t s′ : List ℕ) (log theirs log′ l m : List Record) → Raising n s t s′ → Taking log theirs log′ l m →

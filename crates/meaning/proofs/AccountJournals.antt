@@ -1,4 +1,4 @@
--- Demand 3 of journals: the table that a journal's replay leaves is the table of a run, so no finding of a journal is lost.
+-- Demand 3 of journals, which are replayed on vectors: the table that a journal's replay leaves is the table of a run, so no finding of a journal is lost.
 use mathlib.Core.Path.{_≡_, refl, sym, ap, _∙_}
 use mathlib.Core.Bool.{Bool, true, false, not, _&&_, cond}
 use mathlib.Core.Logic.{_⊎_, inl, inr}
@@ -12,7 +12,7 @@ use Rattle.meaning.specs.declared.Line.{Line}
 use Rattle.meaning.specs.declared.Line.the-variants.{Begin, Act, Refused}
 use Rattle.meaning.specs.declared.Next.{Next}
 use Rattle.meaning.specs.declared.Next.the-variants.{Begin as BeginAt, Act as ActAt, Refused as RefusedAt, End}
-use Rattle.meaning.specs.Table.{nodesMost, countRight, fresh}
+use Rattle.meaning.specs.Table.{Vectors, nodesMost, countRight, fresh}
 use Rattle.meaning.specs.Frames.{bytesOf, lineKind, lineFields, lineRefusal, linePlace, meant, lineIs, readLine}
 use Rattle.meaning.specs.Journals.{unended, lineAt, placeAfter, inTurn, nextIn, nextAt, journal, startedFrom, afterAll, replayAfter}
 use Rattle.meaning.specs.Account.{events, run}
@@ -81,23 +81,25 @@ journal-right-at s End e h = rw (e, journal) (inl refl)
 pub journal-right : (s : List ℕ) → (journal s .n ≡ 0) ⊎ (countRight (journal s .n) ≡ true)
 journal-right s = journal-right-at s (nextAt s 0 1) refl (next-right true s 0 1)
 
-pub started : (n : ℕ) (t : List ℕ) → 0 < n → startedFrom n t ≡ fresh n
+pub started : (n : ℕ) (t : List ℕ) → 0 < n → startedFrom n t ≡ fresh Vectors n
 started zero t h = absurd (omega arith)
 started (suc n) t h = refl
 
 -- DEMAND 3 of journals: whatever words were lent and whatever the journal holds, the table after its replay is that of the run of its steps, up to
 -- the end or the first refused line, and at each of its nodes nothing is lost.
 pub journal-demand3 : (t s : List ℕ) (p : ℕ) → p < journal s .n →
-    (replayAfter t s ≡ run (journal s .n) (events (journal s .rest .steps)) .table) ×
-    NothingLost (journal s .n) (run (journal s .n) (events (journal s .rest .steps))) p
+    (replayAfter t s ≡ run Vectors (journal s .n) (events (journal s .rest .steps)) .table) ×
+    NothingLost (journal s .n) (run Vectors (journal s .n) (events (journal s .rest .steps))) p
 unfolding replayAfter
 journal-demand3 t s p h = (
-  ap (λ (u : List ℕ). afterAll u (journal s .rest .steps)) (started (journal s .n) t (omega arith)) ∙ sym (run-table (journal s .n) (journal s .rest .steps)),
+  ap (λ (u : List ℕ). afterAll u (journal s .rest .steps)) (started (journal s .n) t (omega arith)) ∙
+      sym (run-table Vectors (journal s .n) (journal s .rest .steps)),
   within (journal-right s),
 )
   where
-    within : (journal s .n ≡ 0) ⊎ (countRight (journal s .n) ≡ true) → NothingLost (journal s .n) (run (journal s .n) (events (journal s .rest .steps))) p
+    within : (journal s .n ≡ 0) ⊎ (countRight (journal s .n) ≡ true) →
+        NothingLost (journal s .n) (run Vectors (journal s .n) (events (journal s .rest .steps))) p
     within (inl e) = absurd (omega arith)
     within (inr c) =
-        demand3 (journal s .n) (leb-true 2 (journal s .n) (and-left (leb 2 (journal s .n)) (leb (journal s .n) nodesMost) c))
+        demand3 Vectors (journal s .n) (leb-true 2 (journal s .n) (and-left (leb 2 (journal s .n)) (leb (journal s .n) nodesMost) c))
         (leb-true (journal s .n) nodesMost (and-right (leb 2 (journal s .n)) (leb (journal s .n) nodesMost) c)) (events (journal s .rest .steps)) p h

@@ -24,10 +24,10 @@ use mathlib.Core.List.{
 use Prim.Native.Nat.{ℕ, zero, suc, _≤_, _<_, max}
 use native.Mathlib.Omega.{arith}
 use lib.ListN.{length, getD}
-use lib.Dec.{leb, eqb}
-use borrow.Author.Tests.{leb-true, leb-false, le-leb, lt-leb, eqb-true, eq-eqb, not-false}
+use lib.Dec.{eqb}
+use borrow.Author.Tests.{leb-true, leb-false, le-leb, lt-leb, eqb-true, eq-eqb, not-true, not-false}
 use Rattle.meaning.specs.declared.Record.{Record}
-use Rattle.meaning.specs.Rows.{keepIf, keep, least, raise, covers, newer, above}
+use Rattle.meaning.specs.Rows.{keepIf, keep, least, raise, covers, newer}
 use Rattle.meaning.specs.Account.{sameRecord, has, lacking}
 use Rattle.meaning.proofs.RowLaws.{and-left, and-right, and-both}
 
@@ -179,29 +179,17 @@ newer-sublist s d = keep-sublist (λ x. not (covers s x)) d
 
 -- What a purge leaves ---------------------------------------------------------------------------------------------------------------------------
 
-pub above-sub : (limit : ℕ) (xs : List Record) → Sublistᴰ (above limit xs) xs
-unfolding above
-above-sub limit xs = keep-sub (λ r. not (leb (r .timestamp) limit)) xs
+-- what is gone passed the test of what leaves, and what is left did not
+pub keep-gone : (leaves : Record → Bool) (xs : List Record) (r : Record) → has r xs ≡ true → has r (keep (λ x. not (leaves x)) xs) ≡ false → leaves r ≡ true
+keep-gone leaves xs r h gone =
+    let a = has-keep (λ y. not (leaves y)) r xs in
+    let f : not (leaves r) ≡ false = cc in
+    not-false (leaves r) f
 
--- what is gone is at or below the limit
-pub above-gone : (limit : ℕ) (xs : List Record) (r : Record) → has r xs ≡ true → has r (above limit xs) ≡ false → r .timestamp ≤ limit
-unfolding above
-above-gone limit xs r h gone =
-    let a = has-keep (λ y. not (leb (y .timestamp) limit)) r xs in
-    let f : not (leb (r .timestamp) limit) ≡ false = cc in
-    leb-true (r .timestamp) limit (not-false (leb (r .timestamp) limit) f)
-
--- what is left is above it
-pub has-above : (limit : ℕ) (xs : List Record) (r : Record) → has r (above limit xs) ≡ true → limit < r .timestamp
-unfolding above
-has-above limit xs r h =
-    let a = has-keep (λ y. not (leb (y .timestamp) limit)) r xs in
-    let f : not (leb (r .timestamp) limit) ≡ true = and-right (has r xs) (not (leb (r .timestamp) limit)) (sym a ∙ h) in
-    leb-false (r .timestamp) limit (by-not (leb (r .timestamp) limit) f)
-  where
-    by-not : (b : Bool) → not b ≡ true → b ≡ false
-    by-not true g = sym g
-    by-not false g = refl
+pub keep-left : (leaves : Record → Bool) (xs : List Record) (r : Record) → has r (keep (λ x. not (leaves x)) xs) ≡ true → leaves r ≡ false
+keep-left leaves xs r h =
+    let a = has-keep (λ y. not (leaves y)) r xs in
+    not-true (leaves r) (and-right (has r xs) (not (leaves r)) (sym a ∙ h))
 
 -- Rows ----------------------------------------------------------------------------------------------------------------------------------
 

@@ -6,11 +6,12 @@
 -- beginning and its own lacked. Then each node's account is exactly the written records its summary covers; its log is that account, in order of
 -- arrival, less some records; and every record missing there is in every node's account."
 --
--- How to read it. `run n es` (specs/Account.antt) is what the list of events `es` makes of a fresh table of n nodes, where an event is a step:
--- `.table` is the table itself, 4,641 words, changed by `after`, the function that the code's contracts cite; `.account` is the plain account
--- beside it, which looks at no vector and no acknowledgement. `node t p` is node p as it stands in the table t. `has r l` says whether the list l
--- has the record r, word for word. Any list of steps: also one whose steps are wrong, since a refused step changes neither the table nor the
--- account, and whatever numbers stand in their fields: soundness is a fact of each accepted step, by refusal 1, and need not be carried along.
+-- How to read it. `run f n es` (specs/Account.antt) is what the list of events `es` makes of a fresh table of n nodes and of the form f, vectors or
+-- columns (T-06), where an event is a step: `.table` is the table itself, 4,641 or 8,225 words, changed by `after`, the function that the code's
+-- contracts cite; `.account` is the plain account beside it, which looks at no vector, no column and no acknowledgement. `node t p` is node p as it
+-- stands in the table t. `has r l` says whether the list l has the record r, word for word. Any list of steps: also one whose steps are wrong, since
+-- a refused step changes neither the table nor the account, and whatever numbers stand in their fields: soundness is a fact of each accepted step, by
+-- refusal 1, and need not be carried along.
 -- All three hold after every step, since the first steps of a list are a list themselves.
 use mathlib.Core.Path.{_≡_, sym, _∙_}
 use mathlib.Core.Bool.{true, false, _&&_}
@@ -20,7 +21,7 @@ use Prim.Native.Nat.{ℕ, _≤_, _<_}
 use lib.ListN.{getD}
 use Rattle.meaning.specs.declared.Record.{Record}
 use Rattle.meaning.specs.Rows.{covers}
-use Rattle.meaning.specs.Table.{node}
+use Rattle.meaning.specs.Table.{Form, node}
 use Rattle.meaning.specs.Account.{has, Run, Event, run}
 use Rattle.meaning.proofs.RowLaws.{and-left, and-both}
 use Rattle.meaning.proofs.AccountLaws.{has-mem, mem-has, covers-le, le-covers}
@@ -52,9 +53,9 @@ nothing-lost n x u p h =
           u .whole .holds q j .kept .exact r ∙ and-both (has r (x .account .written)) (covers (node (x .table) q .summary) r) w (k .known r a b q j);
     }
 
--- DEMAND 3. For every number of nodes from 2 to 16, every list of events, which are steps, and every node.
-pub demand3 : (n : ℕ) → 2 ≤ n → n ≤ 16 → (es : List Event) → (p : ℕ) → p < n → NothingLost n (run n es) p
-demand3 n least most es p h = nothing-lost n (run n es) (sure-run n least most es) p h
+-- DEMAND 3. For both forms, every number of nodes from 2 to 16, every list of events, which are steps, and every node.
+pub demand3 : (f : Form) (n : ℕ) → 2 ≤ n → n ≤ 16 → (es : List Event) → (p : ℕ) → p < n → NothingLost n (run f n es) p
+demand3 f n least most es p h = nothing-lost n (run f n es) (sure-run f n least most es) p h
 
 -- The two tests in it mean what they say. A list has a record, as tested, if and only if the record is a member of the list.
 pub membership : (r : Record) (l : List Record) → (has r l ≡ true) ↔ List·Memᴰ r l

@@ -1,6 +1,7 @@
 pub mod Edges
 pub mod PlaceLaws
 pub mod PieceLaws
+pub mod ColumnLaws
 pub mod RowLaws
 pub mod BitLaws
 pub mod RefusalLaws
@@ -28,6 +29,8 @@ pub mod FrameInverses
 pub mod FrameTheorems
 pub mod FaultTheorems
 pub mod LagTheorems
+pub mod PurgeLaws
+pub mod ColumnTheorems
 pub mod WideLaws
 pub mod Numbers
 pub mod OrderLaws

@@ -3,10 +3,10 @@
 -- Document 02, T-04: "The repair planner acts on findings in sequence. .. For any two nodes, one's delivered list must be a beginning of the
 -- other's."
 --
--- How to read it. `run n es` is what the list of events `es` makes of a fresh table of n nodes, with the plain account of demand 3 beside it
--- (specs/Account.antt); `orderOf n es p` (specs/Order.antt) is node p's delivered list, all its deliveries one after the other: at each accepted
--- delivery of p, what `given` says, which is what the code's contract says is written into the lent list. `inOrder` is the list by timestamp and
--- then origin. Any list of steps, also wrong ones: a refused delivery gives nothing and leaves the mark.
+-- How to read it. `run Vectors n es` is what the list of events `es` makes of a fresh table of n nodes with vectors, the plain account of demand 3
+-- beside it (specs/Account.antt); on columns every delivery is refused. `orderOf n es p` (specs/Order.antt) is node p's delivered list, all its
+-- deliveries one after the other: at each accepted delivery of p, what `given` says, which is what the code's contract says is written into the lent
+-- list. `inOrder` is the list by timestamp and then origin. Any list of steps, also wrong ones: a refused delivery gives nothing and leaves the mark.
 use mathlib.Core.Path.{_≡_, sym, ap, _∙_}
 use mathlib.Core.Bool.{Bool, true, false, _&&_}
 use mathlib.Core.Logic.{_⊎_, inl, inr}
@@ -18,7 +18,7 @@ use lib.Dec.{leb, ltb}
 use borrow.Author.Tests.{leb-true, leb-false, ltb-true, le-leb, lt-ltb}
 use Rattle.meaning.specs.declared.Record.{Record}
 use Rattle.meaning.specs.Rows.{keep, covers, due, inOrder}
-use Rattle.meaning.specs.Table.{mark, node}
+use Rattle.meaning.specs.Table.{Vectors, mark, node}
 use Rattle.meaning.specs.Account.{has, Event, run}
 use Rattle.meaning.specs.Order.{orderOf}
 use Rattle.meaning.proofs.RowLaws.{and-left, and-right, and-both}
@@ -32,10 +32,10 @@ upTo high rs = keep (λ r. leb (r .timestamp) high) rs
 
 module _ (n : ℕ) (least : 2 ≤ n) (most : n ≤ 16) (es : List Event) where
   abbrev written : List Record
-  written = run n es .account .written
+  written = run Vectors n es .account .written
 
   abbrev markOf : ℕ → ℕ
-  markOf p = mark (run n es .table) p
+  markOf p = mark (run Vectors n es .table) p
 
   -- written records that a test keeps rise when in order
   rising-kept : (f : Record → Bool) → Rising (inOrder (keep f written))
@@ -113,16 +113,16 @@ module _ (n : ℕ) (least : 2 ≤ n) (most : n ≤ 16) (es : List Event) where
 
   -- nothing leaves a log before it is delivered there: a record of a node's account that its log no longer holds is in its delivered list
   pub delivered-before-purged :
-      (p : ℕ) → p < n → (r : Record) → has r (run n es .account .of p) ≡ true → has r (node (run n es .table) p .log) ≡ false →
+      (p : ℕ) → p < n → (r : Record) → has r (run Vectors n es .account .of p) ≡ true → has r (node (run Vectors n es .table) p .log) ≡ false →
       has r (orderOf n es p) ≡ true
   delivered-before-purged p h r a gone =
       let t = ordered-run n least most es .tells p h in
       let kept = ordered-run n least most es .sure .whole .holds p h .kept in
-      let w = and-left (has r written) (covers (node (run n es .table) p .summary) r) (sym (kept .exact r) ∙ a) in
+      let w = and-left (has r written) (covers (node (run Vectors n es .table) p .summary) r) (sym (kept .exact r) ∙ a) in
       by-test (leb (r .timestamp) (markOf p))
       (λ e. t .exact r ∙ and-both (has r written) (leb (r .timestamp) (markOf p)) w e)
-      (λ e. not-both (has r (node (run n es .table) p .log)) (t .above r a (leb-false (r .timestamp) (markOf p) e)) gone)
+      (λ e. not-both (has r (node (run Vectors n es .table) p .log)) (t .above r a (leb-false (r .timestamp) (markOf p) e)) gone)
 
   -- and what is delivered was written, word for word
-  pub delivered-written : (p : ℕ) → p < n → (r : Record) → has r (orderOf n es p) ≡ true → has r (run n es .account .written) ≡ true
+  pub delivered-written : (p : ℕ) → p < n → (r : Record) → has r (orderOf n es p) ≡ true → has r (run Vectors n es .account .written) ≡ true
   delivered-written p h r a = and-left (has r written) (leb (r .timestamp) (markOf p)) (sym (ordered-run n least most es .tells p h .exact r) ∙ a)

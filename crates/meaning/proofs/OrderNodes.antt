@@ -10,7 +10,7 @@ use lib.Dec.{leb, ltb, eqb}
 use borrow.Author.Tests.{leb-true, leb-false, ltb-true, le-leb, lt-leb, lt-ltb, le-ltb, eqb-true, eqb-false}
 use Rattle.meaning.specs.declared.Record.{Record}
 use Rattle.meaning.specs.Rows.{least, covers, due}
-use Rattle.meaning.specs.Table.{Node}
+use Rattle.meaning.specs.Table.{Form, Node}
 use Rattle.meaning.specs.Node.{wrote, opened, sent, finished, ended, purged, waiting, given, raised}
 use Rattle.meaning.specs.Account.{sameRecord, has, lacking, Account}
 use Rattle.meaning.proofs.RowLaws.{and-left, and-right, and-both}
@@ -24,7 +24,7 @@ use Rattle.meaning.proofs.AccountLaws.{
   has-lacking,
   has-newer,
   once-keep,
-  above-gone,
+  keep-gone,
   entry,
   least-le,
   le-covers,
@@ -70,7 +70,7 @@ told-more n w r mark x l list later k = record { low = k .low; rises = k .rises;
         by-test (has s w) (λ h. cc) (λ h. cc))
         (λ e. by-test (has s w) (λ h. cc) (λ h. cc))
 
-module _ (n : ℕ) (nodes : ℕ → Node) (x : Account) (k : Whole n nodes x) where
+module _ (form : Form) (n : ℕ) (nodes : ℕ → Node) (x : Account) (k : Whole form n nodes x) where
   -- no mark is above a writer's own entry, so nothing written later falls at or below one
   pub mark-behind : (p q mark : ℕ) → p < n → q < n → (l list : List Record) → Told n (x .written) mark (nodes q) l list → mark ≤ entry (nodes p .summary) p
   mark-behind p q mark h j l list t = omega (arith, t .low p h, k .holds q j .kept .behind p h)
@@ -108,14 +108,14 @@ module _ (n : ℕ) (nodes : ℕ → Node) (x : Account) (k : Whole n nodes x) wh
   -- so what its account gains, its log gains
   pub told-ended :
       (f : Bool) (a b ca cb mark : ℕ) → a < n → b < n → (list : List Record) →
-      ((o : ℕ) → entry (nodes a .summary) o ≤ entry (ended f (opened a ca (nodes a)) (opened b cb (nodes b)) .summary) o) →
+      ((o : ℕ) → entry (nodes a .summary) o ≤ entry (ended f a (opened a ca (nodes a)) (opened b cb (nodes b)) .summary) o) →
       Told n (x .written) mark (nodes a) (x .of a) list →
-      Told n (x .written) mark (ended f (opened a ca (nodes a)) (opened b cb (nodes b))) (taken f (x .of a) (x .of b)) list
+      Told n (x .written) mark (ended f a (opened a ca (nodes a)) (opened b cb (nodes b))) (taken f (x .of a) (x .of b)) list
   unfolding finished opened
   told-ended true a b ca cb mark ha hb list up t =
       let mine = opened a ca (nodes a) in
       let theirs = opened b cb (nodes b) in
-      told-same n (x .written) mark (nodes a) (finished mine theirs) (x .of a) (x .of a ++ lacking (x .of a) (x .of b)) list up
+      told-same n (x .written) mark (nodes a) (finished a mine theirs) (x .of a) (x .of a ++ lacking (x .of a) (x .of b)) list up
       (λ r h later.
       let log = has-append r (nodes a .log) (sent mine theirs) in
       by-test (has r (x .of a))
@@ -139,17 +139,18 @@ module _ (n : ℕ) (nodes : ℕ → Node) (x : Account) (k : Whole n nodes x) wh
   told-ended false a b ca cb mark ha hb list up t =
       told-same n (x .written) mark (nodes a) (opened a ca (nodes a)) (x .of a) (x .of a) list up (t .above) t
 
-  -- Purge: by a limit that is at most the mark
+  -- Purge: only of records that are at most the mark
   pub told-purged :
-      (p limit mark : ℕ) (list : List Record) → limit ≤ mark → Told n (x .written) mark (nodes p) (x .of p) list →
-      Told n (x .written) mark (purged limit (nodes p)) (x .of p) list
+      (p : ℕ) (leaves : Record → Bool) (mark : ℕ) (list : List Record) → ((r : Record) → leaves r ≡ true → r .timestamp ≤ mark) →
+      Told n (x .written) mark (nodes p) (x .of p) list →
+      Told n (x .written) mark (purged leaves (nodes p)) (x .of p) list
   unfolding purged
-  told-purged p limit mark list low t =
-      told-same n (x .written) mark (nodes p) (purged limit (nodes p)) (x .of p) (x .of p) list (λ o. omega arith)
+  told-purged p leaves mark list low t =
+      told-same n (x .written) mark (nodes p) (purged leaves (nodes p)) (x .of p) (x .of p) list (λ o. omega arith)
       (λ r h later.
-      by-test (has r (purged limit (nodes p) .log))
+      by-test (has r (purged leaves (nodes p) .log))
       (λ e. e)
-      (λ e. absurd (omega (arith, later, low, above-gone limit (nodes p .log) r (t .above r h later) e))))
+      (λ e. absurd (omega (arith, later, low r (keep-gone leaves (nodes p .log) r (t .above r h later) e)))))
       t
 
   -- Deliver: what is given is what was written above the mark and not above the smallest entry

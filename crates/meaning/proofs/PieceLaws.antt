@@ -1,11 +1,11 @@
 -- Laws of pieces laid over a list of words: what lies apart from every piece stays as it was, and each piece is read again. The pieces fill
 -- regions, a place and how many words at most each, so that a new piece or another layout is a row more and no law more.
-use mathlib.Core.Path.{_≡_, refl, _∙_}
-use mathlib.Core.List.{List, [], _∷_, List·Memᴰ, List·Memᴰ·head, List·Memᴰ·tail}
+use mathlib.Core.Path.{_≡_, refl, ap, _∙_}
+use mathlib.Core.List.{List, [], _∷_, _++_, List·Memᴰ, List·Memᴰ·head, List·Memᴰ·tail}
 use Prim.Native.Nat.{ℕ, _+_, _≤_, _<_}
 use native.Mathlib.Omega.{arith}
 use lib.ListN.{length, getD}
-use Rattle.meaning.specs.Table.{part, Piece, lay}
+use Rattle.meaning.specs.Table.{part, place, Piece, lay}
 use Rattle.meaning.proofs.PlaceLaws.{length-place, getD-away, part-same, part-away}
 
 pub record Region : Type 0 where
@@ -36,6 +36,56 @@ pub data Fills : List Piece → List Region → Type 0 where
   Fills·cons :
       {x : Piece} {xs : List Piece} {r : Region} {rs : List Region} → x .at ≡ r .at → length (x .new) ≤ r .most → Fills xs rs →
       Fills (x ∷ xs) (r ∷ rs)
+
+-- every region lies from lo on and before hi
+pub data Between (lo hi : ℕ) : List Region → Type 0 where
+  Between·nil : Between lo hi []
+  Between·cons : {r : Region} {rs : List Region} → lo ≤ r .at → r .at + r .most ≤ hi → Between lo hi rs → Between lo hi (r ∷ rs)
+
+-- so that what lies outside lies apart from every region, they lie within as many words, and regions after them meet none of them
+pub apart-between : (lo hi a k : ℕ) (rs : List Region) → Between lo hi rs → (a < hi → lo < a + k → ⊥) → Apart a k rs
+apart-between lo hi a k [] Between·nil out = Apart·nil
+apart-between lo hi a k (r ∷ rs) (Between·cons l h b) out =
+    Apart·cons {r = r} (λ u v. out (omega (arith, h, u)) (omega (arith, l, v))) (apart-between lo hi a k rs b out)
+
+pub inside-between : (lo hi m : ℕ) (rs : List Region) → Between lo hi rs → hi ≤ m → Inside m rs
+inside-between lo hi m [] Between·nil e = Inside·nil
+inside-between lo hi m (r ∷ rs) (Between·cons l h b) e = Inside·cons {r = r} (omega (arith, h, e)) (inside-between lo hi m rs b e)
+
+pub apart-append : (a k : ℕ) (rs ss : List Region) → Apart a k rs → Apart a k ss → Apart a k (rs ++ ss)
+apart-append a k [] ss Apart·nil o = o
+apart-append a k (r ∷ rs) ss (Apart·cons g o) o′ = Apart·cons g (apart-append a k rs ss o o′)
+
+pub inside-append : (m : ℕ) (rs ss : List Region) → Inside m rs → Inside m ss → Inside m (rs ++ ss)
+inside-append m [] ss Inside·nil i = i
+inside-append m (r ∷ rs) ss (Inside·cons h i) i′ = Inside·cons h (inside-append m rs ss i i′)
+
+pub disjoint-append :
+    (lo mid hi : ℕ) (rs ss : List Region) → Between lo mid rs → Disjoint rs → Between mid hi ss → Disjoint ss → Disjoint (rs ++ ss)
+disjoint-append lo mid hi [] ss Between·nil Disjoint·nil c d = d
+disjoint-append lo mid hi (r ∷ rs) ss (Between·cons l h b) (Disjoint·cons g o) c d =
+    Disjoint·cons
+    (apart-append (r .at) (r .most) rs ss g (apart-between mid hi (r .at) (r .most) ss c (λ u v. omega (arith, h, v))))
+    (disjoint-append lo mid hi rs ss b o c d)
+
+pub fills-append : (xs ys : List Piece) (rs ss : List Region) → Fills xs rs → Fills ys ss → Fills (xs ++ ys) (rs ++ ss)
+fills-append [] ys [] ss Fills·nil g = g
+fills-append (x ∷ xs) ys (r ∷ rs) ss (Fills·cons e l f) g = Fills·cons e l (fills-append xs ys rs ss f g)
+
+-- a piece of a list, with others before or after it
+pub among-left : (x : Piece) (xs ys : List Piece) → List·Memᴰ x xs → List·Memᴰ x (xs ++ ys)
+among-left x (y ∷ xs) ys (List·Memᴰ·head q) = List·Memᴰ·head q
+among-left x (y ∷ xs) ys (List·Memᴰ·tail m) = List·Memᴰ·tail (among-left x xs ys m)
+
+pub among-right : (x : Piece) (xs ys : List Piece) → List·Memᴰ x ys → List·Memᴰ x (xs ++ ys)
+among-right x [] ys m = m
+among-right x (y ∷ xs) ys m = List·Memᴰ·tail (among-right x xs ys m)
+
+-- pieces laid over others
+pub lay-append : (xs ys : List Piece) (t : List ℕ) → lay (xs ++ ys) t ≡ lay xs (lay ys t)
+unfolding lay
+lay-append [] ys t = refl
+lay-append (x ∷ xs) ys t = ap (place (x .at) (x .new)) (lay-append xs ys t)
 
 -- what lies apart from the regions lies apart from each piece, and the pieces lie where the regions do
 apart-at :

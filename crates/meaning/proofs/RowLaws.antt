@@ -47,6 +47,28 @@ module _ {A : Type 0} where
       go true p q = and-both (f x) (all f (keep g xs)) p q
       go false p q = q
 
+  -- what passes at each element passes at each of them, and where it does not there is one at which it fails
+  pub all-at : (f : A → Bool) (xs : List A) (d : A) → all f xs ≡ true → (i : ℕ) → i < length xs → f (getD xs i d) ≡ true
+  unfolding all
+  all-at f [] d h i b = absurd (omega arith)
+  all-at f (x ∷ xs) d h zero b = and-left (f x) (all f xs) h
+  all-at f (x ∷ xs) d h (suc i) b = all-at f xs d (and-right (f x) (all f xs) h) i (omega arith)
+
+  pub all-not : (f : A → Bool) (xs : List A) (d : A) → all f xs ≡ false → (i : ℕ) × ((i < length xs) × (f (getD xs i d) ≡ false))
+  unfolding all
+  all-not f [] d h = absurd (false≢true (sym h))
+  all-not f (x ∷ xs) d h = go (f x) refl (all-not f xs d)
+    where
+      go : (b : Bool) → f x ≡ b → (all f xs ≡ false → (i : ℕ) × ((i < length xs) × (f (getD xs i d) ≡ false)))
+          → (i : ℕ) × ((i < length (x ∷ xs)) × (f (getD (x ∷ xs) i d) ≡ false))
+      go true e ih =
+          let rest : all f xs ≡ false = cc in
+          let r = ih rest in (
+            suc (r .0),
+            (omega (arith, r .1 .0), r .1 .1),
+          )
+      go false e ih = (0, (omega arith, e))
+
   pub length-keep : (f : A → Bool) (xs : List A) → length (keep f xs) ≤ length xs
   unfolding keep
   length-keep f [] = omega arith

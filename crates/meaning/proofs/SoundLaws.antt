@@ -14,7 +14,7 @@ use lib.Dec.{leb, ltb, eqb}
 use Rattle.meaning.specs.Rows.{every, recordAt}
 use Rattle.meaning.proofs.BitLaws.{or-byte}
 use Rattle.meaning.proofs.RowLaws.{every-at, recordAt-agree}
-use Rattle.meaning.specs.Table.{tableWords, nodesMost, logMost, logAt, part, count, held, recordSound, logSound, sound}
+use Rattle.meaning.specs.Table.{formWords, formOf, nodesMost, logMost, logAt, part, count, held, recordSound, logSound, sound}
 
 -- no number, and one number more
 pub every-none : (f : ℕ → Bool) → every 0 f ≡ true
@@ -94,29 +94,29 @@ module _ (t : List ℕ) (p : ℕ) where
   unfolding logSound
   log-full h e most = rw (lt-leb (held t p) logMost (omega arith))
 
-  pub log-scanned : (n h at k : ℕ) (r : Bool) → n ≡ count t → h ≡ held t p → h ≤ logMost → at ≡ logAt p
+  pub log-scanned : (n h at k : ℕ) (r : Bool) → n ≡ count t → h ≡ held t p → h ≤ logMost → at ≡ logAt (formOf t) p
       → r ≡ every h (λ i. recordSound n (recordAt (take k (drop at t)) i))
       → k ≡ 4 * h
       → r ≡ logSound t p
   unfolding logSound
   log-scanned n h at k r en eh most ea er ek =
       rw (er, en, ea, ek, ← eh, le-leb h logMost most)
-      (every-same h _ _ (λ i below. ap (recordSound (count t)) (recordAt-held t (logAt p) h (4 * logMost) i below (omega arith))))
+      (every-same h _ _ (λ i below. ap (recordSound (count t)) (recordAt-held t (logAt (formOf t) p) h (4 * logMost) i below (omega arith))))
 
 -- The table's answer from its parts, in the order of the tests.
 module _ (t : List ℕ) where
-  pub unsound-length : (length t ≡ tableWords → ⊥) → false ≡ sound t
+  pub unsound-length : (length t ≡ formWords (formOf t) → ⊥) → false ≡ sound t
   unfolding sound
-  unsound-length wrong = rw (ne-eqb (length t) tableWords wrong)
+  unsound-length wrong = rw (ne-eqb (length t) (formWords (formOf t)) wrong)
 
-  pub unsound-few : (n : ℕ) → length t ≡ tableWords → n ≡ count t → n < 2 → false ≡ sound t
+  pub unsound-few : (n : ℕ) → length t ≡ formWords (formOf t) → n ≡ count t → n < 2 → false ≡ sound t
   unfolding sound
-  unsound-few n right en few = rw (eq-eqb (length t) tableWords right, ← en, lt-leb 2 n few)
+  unsound-few n right en few = rw (eq-eqb (length t) (formWords (formOf t)) right, ← en, lt-leb 2 n few)
 
-  pub unsound-many : (n : ℕ) → length t ≡ tableWords → n ≡ count t → 2 ≤ n → nodesMost < n → false ≡ sound t
+  pub unsound-many : (n : ℕ) → length t ≡ formWords (formOf t) → n ≡ count t → 2 ≤ n → nodesMost < n → false ≡ sound t
   unfolding sound
-  unsound-many n right en enough many = rw (eq-eqb (length t) tableWords right, ← en, le-leb 2 n enough, lt-leb n nodesMost many)
+  unsound-many n right en enough many = rw (eq-eqb (length t) (formWords (formOf t)) right, ← en, le-leb 2 n enough, lt-leb n nodesMost many)
 
-  pub sound-logs : (n : ℕ) (r : Bool) → length t ≡ tableWords → n ≡ count t → 2 ≤ n → n ≤ nodesMost → r ≡ every n (logSound t) → r ≡ sound t
+  pub sound-logs : (n : ℕ) (r : Bool) → length t ≡ formWords (formOf t) → n ≡ count t → 2 ≤ n → n ≤ nodesMost → r ≡ every n (logSound t) → r ≡ sound t
   unfolding sound
-  sound-logs n r right en enough most er = rw (eq-eqb (length t) tableWords right, ← en, le-leb 2 n enough, le-leb n nodesMost most) er
+  sound-logs n r right en enough most er = rw (eq-eqb (length t) (formWords (formOf t)) right, ← en, le-leb 2 n enough, le-leb n nodesMost most) er

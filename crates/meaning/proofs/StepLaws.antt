@@ -4,26 +4,32 @@ use mathlib.Core.Path.{_≡_, refl, sym, ap, _∙_}
 use mathlib.Core.Bool.{Bool, true, false, not, _&&_, _||_, true≢false, and-true, or-true, cond}
 use mathlib.Core.List.{List, [], _∷_, _++_, append-nil}
 use Prim.Native.Nat.{ℕ, zero, suc, _-_, _*_, _≤_, _<_}
+use native.Mathlib.Decide.{decLt}
 use native.Mathlib.Omega.{arith}
 use borrow.Author.Tests.{leb-false, ltb-false, eqb-false, le-leb, lt-leb, le-ltb, lt-ltb, eq-eqb, ne-eqb, not-false}
 use lib.Seq.{take-at}
-use lib.ListN.{length, getD, take, length-set, length-append, length-replicate, getD-replicate}
+use lib.ListN.{length, getD, set, take, length-set, length-append, length-replicate, getD-replicate, List·getD-eq-default}
 use lib.Dec.{leb, ltb}
 use Rattle.meaning.specs.declared.Record.{Record}
 use Rattle.meaning.specs.declared.Action.{Action}
 use Rattle.meaning.specs.declared.Action.the-variants.{Write, Session, Purge, Deliver}
 use Rattle.meaning.specs.declared.Reply.the-variants.{Refused}
-use Rattle.meaning.specs.Rows.{all, newer, above, records}
+use Rattle.meaning.specs.Rows.{all, raise, newer, records}
 use Rattle.meaning.specs.Refusals.{first}
 use Rattle.meaning.specs.Table.{
+  Form,
+  Vectors,
+  Columns,
   Node,
-  tableWords,
+  formWords,
+  formOf,
   nodesMost,
   logMost,
   countAt,
   heldAt,
   logAt,
   markAt,
+  acksWide,
   part,
   count,
   held,
@@ -36,21 +42,27 @@ use Rattle.meaning.specs.Table.{
   Sound,
   Shaped,
 }
-use Rattle.meaning.specs.Node.{own, wrote, opened, sent, finished, ended, purged, raised}
-use Rattle.meaning.specs.Steps.{finishesA, finishesB, overfull, refusals, refusal, limit, acted, reported, reply, after}
-use Rattle.meaning.proofs.RowLaws.{all-append, all-keep, length-above, and-both, length-raise, length-records, records-take}
+use Rattle.meaning.specs.Node.{own, wrote, opened, sent, merged, learnt, finished, ended, purged, raised}
+use Rattle.meaning.specs.Steps.{finishesA, finishesB, overfull, onColumns, refusals, refusal, leaving, acted, reported, reply, after}
+use Rattle.meaning.proofs.RowLaws.{all-append, all-keep, length-keep, and-both, length-raise, length-records, records-take}
+use Rattle.meaning.proofs.ColumnLaws.{length-raiseEach, getD-raiseEach, long-raiseEach, set-columns-long, set-columns-own}
 use Rattle.meaning.proofs.RefusalLaws.{numbered, testOf, first-at}
 use Rattle.meaning.proofs.TableLaws.{
   sound-facts,
   facts-sound,
+  form-is,
   sound-put,
   node-shaped,
   node-same,
   node-other,
   put-count,
+  put-form,
+  put-long,
   mark-put,
   held-log,
   mark-count,
+  mark-form,
+  mark-long,
   mark-same,
   mark-other,
   node-mark,
@@ -93,6 +105,7 @@ pub record MayPurge (t : List ℕ) (p : ℕ) : Type 0 where
 pub record MayDeliver (t : List ℕ) (p : ℕ) : Type 0 where
   pub isSound : Sound t
   pub here : p < count t
+  pub form : formOf t ≡ Vectors
 
 pub refusals-numbered : (t : List ℕ) (x : Action) → numbered (refusals t x) ≡ true
 unfolding refusals numbered
@@ -145,7 +158,15 @@ pub may-deliver : (t : List ℕ) (p : ℕ) → refusal t (Deliver p) ≡ 0 → M
 unfolding refusals testOf
 may-deliver t p h =
     let fails = passed t (Deliver p) h in
-    record { isSound = sound-facts t (not-false (sound t) (fails 1)); here = leb-false (count t) p (fails 3) }
+    record {
+      isSound = sound-facts t (not-false (sound t) (fails 1));
+      here = leb-false (count t) p (fails 3);
+      form = go (formOf t) (fails 26);
+    }
+  where
+    go : (f : Form) → onColumns f ≡ false → f ≡ Vectors
+    go Vectors h = refl
+    go Columns h = absurd (true≢false h)
 
 pub after-accepted : (t : List ℕ) (x : Action) → refusal t x ≡ 0 → after t x ≡ acted t x
 unfolding after
@@ -156,38 +177,93 @@ unfolding after
 after-refused t x k h = rw h
 
 -- A node that each action leaves fits the table
-module _ (n : ℕ) (x : Node) (fits : Shaped n x) where
-  pub opened-shaped : (p c : ℕ) → Shaped n (opened p c x)
+module _ (f : Form) (n p : ℕ) (x : Node) (fits : Shaped f n p x) where
+  pub opened-shaped : (c : ℕ) → Shaped f n p (opened p c x)
   unfolding opened
-  opened-shaped p c =
+  opened-shaped c =
+      let s = set (x .summary) p c in
+      let l = length-set (x .summary) p c ∙ fits .summaryLong in
       record {
-        summaryLong = length-set (x .summary) p c ∙ fits .summaryLong;
+        summaryLong = l;
         acksLong = length-set (x .acks) p _ ∙ fits .acksLong;
+        columnsLong = length-set (x .columns) p s ∙ fits .columnsLong;
+        columnLong = set-columns-long (x .columns) n p s l (fits .columnLong);
+        columnOwn = set-columns-own (x .columns) p s;
         logShort = fits .logShort;
       }
 
-  pub wrote-shaped : (p c b v : ℕ) → length (x .log) < logMost → Shaped n (wrote p c b v x)
+  pub wrote-shaped : (c b v : ℕ) → length (x .log) < logMost → Shaped f n p (wrote p c b v x)
   unfolding wrote
-  wrote-shaped p c b v h =
-      let l = length-append (x .log) (record { origin = p; timestamp = c; block = b; verdict = v } ∷ []) in
-      record { summaryLong = length-set (x .summary) p c ∙ fits .summaryLong; acksLong = fits .acksLong; logShort = omega arith }
-
-  pub purged-shaped : (limit : ℕ) → Shaped n (purged limit x)
-  unfolding purged
-  purged-shaped limit =
-      let l = length-above limit (x .log) in
-      let s = fits .logShort in
-      record { summaryLong = fits .summaryLong; acksLong = fits .acksLong; logShort = omega arith }
-
-  pub ended-shaped : (y : Node) → Shaped n y → (f : Bool) → overfull f x y ≡ false → Shaped n (ended f x y)
-  unfolding finished
-  ended-shaped y fits′ true h =
+  wrote-shaped c b v h =
+      let s = set (x .summary) p c in
+      let l = length-set (x .summary) p c ∙ fits .summaryLong in
+      let more = length-append (x .log) (record { origin = p; timestamp = c; block = b; verdict = v } ∷ []) in
       record {
-        summaryLong = length-raise (x .summary) (y .summary) n (fits .summaryLong) (fits′ .summaryLong);
-        acksLong = length-raise (x .acks) (y .acks) n (fits .acksLong) (fits′ .acksLong);
-        logShort = ltb-false logMost _ h;
+        summaryLong = l;
+        acksLong = fits .acksLong;
+        columnsLong = length-set (x .columns) p s ∙ fits .columnsLong;
+        columnLong = set-columns-long (x .columns) n p s l (fits .columnLong);
+        columnOwn = set-columns-own (x .columns) p s;
+        logShort = omega arith;
       }
-  ended-shaped y fits′ false h = fits
+
+  pub purged-shaped : (leaves : Record → Bool) → Shaped f n p (purged leaves x)
+  unfolding purged
+  purged-shaped leaves =
+      let l = length-keep (λ (r : Record). not (leaves r)) (x .log) in
+      let s = fits .logShort in
+      record {
+        summaryLong = fits .summaryLong;
+        acksLong = fits .acksLong;
+        columnsLong = fits .columnsLong;
+        columnLong = fits .columnLong;
+        columnOwn = fits .columnOwn;
+        logShort = omega arith;
+      }
+
+  -- with a partner's node
+  module _ (q : ℕ) (y : Node) (theirs : Shaped f n q y) where
+    pub merged-long : length (merged x y) ≡ length (x .columns)
+    merged-long = length-raiseEach (x .columns) (y .columns) (length (x .columns)) refl (theirs .columnsLong ∙ sym (fits .columnsLong))
+
+    pub column-merged : (i : ℕ) (d : List ℕ) → i < length (x .columns) → getD (merged x y) i d ≡ raise (getD (x .columns) i []) (getD (y .columns) i [])
+    column-merged i d h = getD-raiseEach (x .columns) (y .columns) i d h (fits .columnsLong ∙ sym (theirs .columnsLong))
+
+    column-long : (i : ℕ) → i < length (x .columns) → length (getD (merged x y) i []) ≡ n
+    column-long i h =
+        let e = fits .columnsLong ∙ sym (theirs .columnsLong) in
+        long-raiseEach (x .columns) (y .columns) n i h e (fits .columnLong i h) (theirs .columnLong i (omega arith))
+
+    -- the own column before it takes the partner's own: the summary on vectors
+    pub column-none : length (x .columns) ≤ p → getD (merged x y) p (x .summary) ≡ x .summary
+    column-none h = let l = merged-long in List·getD-eq-default (merged x y) (x .summary) (omega arith)
+
+    pub column-some : p < length (x .columns) → getD (merged x y) p (x .summary) ≡ raise (x .summary) (getD (y .columns) p [])
+    column-some h = column-merged p (x .summary) h ∙ ap (λ (c : List ℕ). raise c (getD (y .columns) p [])) (fits .columnOwn h)
+
+    pub learnt-long : length (learnt p x y) ≡ n
+    unfolding learnt
+    learnt-long = length-raise (getD (merged x y) p (x .summary)) (y .summary) n (go (decLt p (length (x .columns)))) (theirs .summaryLong)
+      where
+        go : Dec (p < length (x .columns)) → length (getD (merged x y) p (x .summary)) ≡ n
+        go (yes h) =
+            let e = fits .columnsLong ∙ sym (theirs .columnsLong) in
+            ap length (column-some h) ∙ length-raise (x .summary) (getD (y .columns) p []) n (fits .summaryLong) (theirs .columnLong p (omega arith))
+        go (no h) = ap length (column-none (omega arith)) ∙ fits .summaryLong
+
+    pub ended-shaped : (g : Bool) → overfull g x y ≡ false → Shaped f n p (ended g p x y)
+    unfolding finished
+    ended-shaped true h =
+        record {
+          summaryLong = learnt-long;
+          acksLong = length-raise (x .acks) (y .acks) (acksWide f n) (fits .acksLong) (theirs .acksLong);
+          columnsLong = length-set (merged x y) p (learnt p x y) ∙ merged-long ∙ fits .columnsLong;
+          columnLong =
+              set-columns-long (merged x y) n p (learnt p x y) learnt-long (λ i b. let l = merged-long in column-long i (omega arith));
+          columnOwn = set-columns-own (merged x y) p (learnt p x y);
+          logShort = ltb-false logMost _ h;
+        }
+    ended-shaped false h = fits
 
 -- The records that each action leaves are right ones
 pub opened-right : (n : ℕ) (x : Node) (p c : ℕ) → all (recordSound n) (x .log) ≡ true → all (recordSound n) (opened p c x .log) ≡ true
@@ -203,17 +279,19 @@ wrote-right n x p c b v hp hv h =
     and-both (all (recordSound n) (x .log)) ((ltb p n && leb v 255) && true) h
     (and-true (ltb p n && leb v 255) ∙ and-both (ltb p n) (leb v 255) (lt-ltb p n hp) (le-leb v 255 hv))
 
-pub purged-right : (n limit : ℕ) (x : Node) → all (recordSound n) (x .log) ≡ true → all (recordSound n) (purged limit x .log) ≡ true
-unfolding purged above
-purged-right n limit x h = all-keep (recordSound n) (λ (r : Record). not (leb (r .timestamp) limit)) (x .log) h
+pub purged-right :
+    (n : ℕ) (leaves : Record → Bool) (x : Node) → all (recordSound n) (x .log) ≡ true → all (recordSound n) (purged leaves x .log) ≡ true
+unfolding purged
+purged-right n leaves x h = all-keep (recordSound n) (λ (r : Record). not (leaves r)) (x .log) h
 
 pub ended-right :
-    (n : ℕ) (x y : Node) (f : Bool) → all (recordSound n) (x .log) ≡ true → all (recordSound n) (y .log) ≡ true → all (recordSound n) (ended f x y .log) ≡ true
-unfolding finished newer above
-ended-right n x y true h g =
+    (n p : ℕ) (x y : Node) (f : Bool) → all (recordSound n) (x .log) ≡ true → all (recordSound n) (y .log) ≡ true →
+    all (recordSound n) (ended f p x y .log) ≡ true
+unfolding finished newer
+ended-right n p x y true h g =
     all-append (recordSound n) (x .log) (sent x y) ∙
     and-both (all (recordSound n) (x .log)) (all (recordSound n) (sent x y)) h (all-keep (recordSound n) _ (y .log) g)
-ended-right n x y false h g = h
+ended-right n p x y false h g = h
 
 -- The verdict that an action brings: a byte in every step that is made, since its field is as wide as in the frame
 abbrev pub verdictOf : Action → ℕ
@@ -224,26 +302,26 @@ verdictOf (Deliver p) = 0
 
 -- The two sides of a session, and the facts about them that an accepted one has
 abbrev pub sideA : List ℕ → ℕ → ℕ → ℕ → ℕ → ℕ → Node
-sideA t a b ca cb o = ended (finishesA o) (opened a ca (node t a)) (opened b cb (node t b))
+sideA t a b ca cb o = ended (finishesA o) a (opened a ca (node t a)) (opened b cb (node t b))
 
 abbrev pub sideB : List ℕ → ℕ → ℕ → ℕ → ℕ → ℕ → Node
-sideB t a b ca cb o = ended (finishesB o) (opened b cb (node t b)) (opened a ca (node t a))
+sideB t a b ca cb o = ended (finishesB o) b (opened b cb (node t b)) (opened a ca (node t a))
 
 module _ (t : List ℕ) (a b ca cb o : ℕ) (m : MayMeet t a b ca cb o) where
   s : Sound t
   s = m .isSound
 
-  startA : Shaped (count t) (opened a ca (node t a))
-  startA = opened-shaped (count t) (node t a) (node-shaped t s a (m .hereA)) a ca
+  startA : Shaped (formOf t) (count t) a (opened a ca (node t a))
+  startA = opened-shaped (formOf t) (count t) a (node t a) (node-shaped t s a (m .hereA)) ca
 
-  startB : Shaped (count t) (opened b cb (node t b))
-  startB = opened-shaped (count t) (node t b) (node-shaped t s b (m .hereB)) b cb
+  startB : Shaped (formOf t) (count t) b (opened b cb (node t b))
+  startB = opened-shaped (formOf t) (count t) b (node t b) (node-shaped t s b (m .hereB)) cb
 
-  pub sideA-shaped : Shaped (count t) (sideA t a b ca cb o)
-  sideA-shaped = ended-shaped (count t) (opened a ca (node t a)) startA (opened b cb (node t b)) startB (finishesA o) (m .roomA)
+  pub sideA-shaped : Shaped (formOf t) (count t) a (sideA t a b ca cb o)
+  sideA-shaped = ended-shaped (formOf t) (count t) a (opened a ca (node t a)) startA b (opened b cb (node t b)) startB (finishesA o) (m .roomA)
 
-  pub sideB-shaped : Shaped (count t) (sideB t a b ca cb o)
-  sideB-shaped = ended-shaped (count t) (opened b cb (node t b)) startB (opened a ca (node t a)) startA (finishesB o) (m .roomB)
+  pub sideB-shaped : Shaped (formOf t) (count t) b (sideB t a b ca cb o)
+  sideB-shaped = ended-shaped (formOf t) (count t) b (opened b cb (node t b)) startB a (opened a ca (node t a)) startA (finishesB o) (m .roomB)
 
   rightA : all (recordSound (count t)) (opened a ca (node t a) .log) ≡ true
   rightA = opened-right (count t) (node t a) a ca (s .right a (m .hereA))
@@ -257,27 +335,38 @@ module _ (t : List ℕ) (a b ca cb o : ℕ) (m : MayMeet t a b ca cb o) where
   pub halfway-count : count halfway ≡ count t
   halfway-count = put-count t s a (m .hereA) (sideA t a b ca cb o) sideA-shaped
 
+  pub halfway-form : formOf halfway ≡ formOf t
+  halfway-form = put-form t s a (m .hereA) (sideA t a b ca cb o) sideA-shaped
+
   pub halfway-sound : Sound halfway
   halfway-sound =
       sound-put t s a (m .hereA) (sideA t a b ca cb o) sideA-shaped
-      (ended-right (count t) (opened a ca (node t a)) (opened b cb (node t b)) (finishesA o) rightA rightB)
+      (ended-right (count t) a (opened a ca (node t a)) (opened b cb (node t b)) (finishesA o) rightA rightB)
 
   pub halfway-here : b < count halfway
   halfway-here = rw halfway-count (m .hereB)
 
-  pub halfway-shaped : Shaped (count halfway) (sideB t a b ca cb o)
-  halfway-shaped = rw halfway-count sideB-shaped
+  pub halfway-shaped : Shaped (formOf halfway) (count halfway) b (sideB t a b ca cb o)
+  halfway-shaped = rw (halfway-form, halfway-count) sideB-shaped
 
   pub session-sound : Sound (acted t (Session a b ca cb o))
   unfolding acted
   session-sound =
       sound-put halfway halfway-sound b halfway-here (sideB t a b ca cb o) halfway-shaped
-      (rw halfway-count (ended-right (count t) (opened b cb (node t b)) (opened a ca (node t a)) (finishesB o) rightB rightA))
+      (rw halfway-count (ended-right (count t) b (opened b cb (node t b)) (opened a ca (node t a)) (finishesB o) rightB rightA))
 
   -- the node of each side afterwards, and of any other
   pub session-count : count (acted t (Session a b ca cb o)) ≡ count t
   unfolding acted
   session-count = put-count halfway halfway-sound b halfway-here (sideB t a b ca cb o) halfway-shaped ∙ halfway-count
+
+  session-long : length (acted t (Session a b ca cb o)) ≡ formWords (formOf t)
+  unfolding acted
+  session-long = put-long halfway halfway-sound b halfway-here (sideB t a b ca cb o) halfway-shaped ∙ ap formWords halfway-form
+
+  pub session-form : formOf (acted t (Session a b ca cb o)) ≡ formOf t
+  unfolding acted
+  session-form = put-form halfway halfway-sound b halfway-here (sideB t a b ca cb o) halfway-shaped ∙ halfway-form
 
   pub session-b : node (acted t (Session a b ca cb o)) b ≡ sideB t a b ca cb o
   unfolding acted
@@ -300,11 +389,11 @@ module _ (t : List ℕ) (a b ca cb o : ℕ) (m : MayMeet t a b ca cb o) where
   session-other q h na nb = away q h nb ∙ node-other t s a (m .hereA) (sideA t a b ca cb o) sideA-shaped q h na
 
 -- what a write and a purge leave fits the table
-pub write-shaped : (t : List ℕ) (p c b v : ℕ) → MayWrite t p c → Shaped (count t) (wrote p c b v (node t p))
-write-shaped t p c b v m = wrote-shaped (count t) (node t p) (node-shaped t (m .isSound) p (m .here)) p c b v (m .room)
+pub write-shaped : (t : List ℕ) (p c b v : ℕ) → MayWrite t p c → Shaped (formOf t) (count t) p (wrote p c b v (node t p))
+write-shaped t p c b v m = wrote-shaped (formOf t) (count t) p (node t p) (node-shaped t (m .isSound) p (m .here)) c b v (m .room)
 
-pub purge-shaped : (t : List ℕ) (p : ℕ) → MayPurge t p → Shaped (count t) (purged (limit t p) (node t p))
-purge-shaped t p m = purged-shaped (count t) (node t p) (node-shaped t (m .isSound) p (m .here)) (limit t p)
+pub purge-shaped : (t : List ℕ) (p : ℕ) → MayPurge t p → Shaped (formOf t) (count t) p (purged (leaving t p) (node t p))
+purge-shaped t p m = purged-shaped (formOf t) (count t) p (node t p) (node-shaped t (m .isSound) p (m .here)) (leaving t p)
 
 -- a write, a session and a purge leave every mark; a delivery leaves every node and every other mark
 pub write-mark : (t : List ℕ) (p c b v : ℕ) → MayWrite t p c → (q : ℕ) → mark (acted t (Write p c b v)) q ≡ mark t q
@@ -313,7 +402,7 @@ write-mark t p c b v m q = mark-put t (m .isSound) p (m .here) (wrote p c b v (n
 
 pub purge-mark : (t : List ℕ) (p : ℕ) → MayPurge t p → (q : ℕ) → mark (acted t (Purge p)) q ≡ mark t q
 unfolding acted
-purge-mark t p m q = mark-put t (m .isSound) p (m .here) (purged (limit t p) (node t p)) (purge-shaped t p m) q
+purge-mark t p m q = mark-put t (m .isSound) p (m .here) (purged (leaving t p) (node t p)) (purge-shaped t p m) q
 
 pub deliver-node : (t : List ℕ) (p : ℕ) → MayDeliver t p → (q : ℕ) → q < count t → node (acted t (Deliver p)) q ≡ node t q
 unfolding acted
@@ -339,7 +428,7 @@ acted-sound t (Session a b ca cb o) hv k = session-sound t a b ca cb o (may-meet
 acted-sound t (Purge p) hv k =
     let m = may-purge t p k in
     let s = m .isSound in
-    sound-put t s p (m .here) (purged (limit t p) (node t p)) (purge-shaped t p m) (purged-right (count t) (limit t p) (node t p) (s .right p (m .here)))
+    sound-put t s p (m .here) (purged (leaving t p) (node t p)) (purge-shaped t p m) (purged-right (count t) (leaving t p) (node t p) (s .right p (m .here)))
 acted-sound t (Deliver p) hv k =
     let m = may-deliver t p k in
     sound-mark t (m .isSound) p (m .here) (raised (mark t p) (node t p))
@@ -352,10 +441,38 @@ acted-count t (Write p c b v) k =
 acted-count t (Session a b ca cb o) k = session-count t a b ca cb o (may-meet t a b ca cb o k)
 acted-count t (Purge p) k =
     let m = may-purge t p k in
-    put-count t (m .isSound) p (m .here) (purged (limit t p) (node t p)) (purge-shaped t p m)
+    put-count t (m .isSound) p (m .here) (purged (leaving t p) (node t p)) (purge-shaped t p m)
 acted-count t (Deliver p) k =
     let m = may-deliver t p k in
     mark-count t (m .isSound) p (m .here) (raised (mark t p) (node t p))
+
+-- and keeps its length
+pub acted-long : (t : List ℕ) (x : Action) → refusal t x ≡ 0 → length (acted t x) ≡ formWords (formOf t)
+unfolding acted
+acted-long t (Write p c b v) k =
+    let m = may-write t p c b v k in
+    put-long t (m .isSound) p (m .here) (wrote p c b v (node t p)) (write-shaped t p c b v m)
+acted-long t (Session a b ca cb o) k = session-long t a b ca cb o (may-meet t a b ca cb o k)
+acted-long t (Purge p) k =
+    let m = may-purge t p k in
+    put-long t (m .isSound) p (m .here) (purged (leaving t p) (node t p)) (purge-shaped t p m)
+acted-long t (Deliver p) k =
+    let m = may-deliver t p k in
+    mark-long t (m .isSound) p (m .here) (raised (mark t p) (node t p))
+
+-- and its form
+pub acted-form : (t : List ℕ) (x : Action) → refusal t x ≡ 0 → formOf (acted t x) ≡ formOf t
+unfolding acted
+acted-form t (Write p c b v) k =
+    let m = may-write t p c b v k in
+    put-form t (m .isSound) p (m .here) (wrote p c b v (node t p)) (write-shaped t p c b v m)
+acted-form t (Session a b ca cb o) k = session-form t a b ca cb o (may-meet t a b ca cb o k)
+acted-form t (Purge p) k =
+    let m = may-purge t p k in
+    put-form t (m .isSound) p (m .here) (purged (leaving t p) (node t p)) (purge-shaped t p m)
+acted-form t (Deliver p) k =
+    let m = may-deliver t p k in
+    mark-form t (m .isSound) p (m .here) (raised (mark t p) (node t p))
 
 -- and under every step at all
 after-sound-at : (t : List ℕ) (x : Action) → verdictOf x ≤ 255 → Sound t → (k : ℕ) → refusal t x ≡ k → Sound (after t x)
@@ -372,43 +489,53 @@ after-count-at t x (suc k) h = ap count (after-refused t x k h)
 pub after-count : (t : List ℕ) (x : Action) → count (after t x) ≡ count t
 after-count t x = after-count-at t x (refusal t x) refl
 
--- a fresh table is sound, and its nodes hold nothing
-pub fresh-count : (n : ℕ) → count (fresh n) ≡ n
-unfolding count fresh
-fresh-count n = refl
+after-form-at : (t : List ℕ) (x : Action) (k : ℕ) → refusal t x ≡ k → formOf (after t x) ≡ formOf t
+after-form-at t x zero h = ap formOf (after-accepted t x h) ∙ acted-form t x h
+after-form-at t x (suc k) h = ap formOf (after-refused t x k h)
 
-pub fresh-long : (n : ℕ) → length (fresh n) ≡ tableWords
+pub after-form : (t : List ℕ) (x : Action) → formOf (after t x) ≡ formOf t
+after-form t x = after-form-at t x (refusal t x) refl
+
+-- a fresh table is sound, and its nodes hold nothing
+pub fresh-count : (f : Form) (n : ℕ) → count (fresh f n) ≡ n
+unfolding count fresh
+fresh-count f n = refl
+
+pub fresh-long : (f : Form) (n : ℕ) → length (fresh f n) ≡ formWords f
 unfolding fresh
-fresh-long n = ap suc (length-replicate (tableWords - 1) (_-_ 1 1))
+fresh-long f n = let l = length-replicate (formWords f - 1) (_-_ 1 1) in omega arith
+
+pub fresh-form : (f : Form) (n : ℕ) → formOf (fresh f n) ≡ f
+fresh-form f n = form-is f (fresh f n) (fresh-long f n)
 
 -- every word of it but the count is zero
-pub fresh-word : (n i : ℕ) → countAt < i → i < tableWords → getD (fresh n) i 0 ≡ 0
+pub fresh-word : (f : Form) (n i : ℕ) → countAt < i → i < formWords f → getD (fresh f n) i 0 ≡ 0
 unfolding fresh
-fresh-word n zero h j = absurd (omega arith)
-fresh-word n (suc i) h j = getD-replicate (tableWords - 1) i 0 0 (omega arith)
+fresh-word f n zero h j = absurd (omega arith)
+fresh-word f n (suc i) h j = getD-replicate (formWords f - 1) i 0 0 (omega arith)
 
-fresh-held : (n p : ℕ) → p < nodesMost → held (fresh n) p ≡ 0
+fresh-held : (f : Form) (n p : ℕ) → p < nodesMost → held (fresh f n) p ≡ 0
 unfolding held
-fresh-held n p h = fresh-word n (heldAt p) (omega arith) (omega arith)
+fresh-held f n p h = rw (fresh-form f n) (fresh-word f n (heldAt f p) (omega arith) (omega arith))
 
-pub fresh-log : (n p : ℕ) → p < nodesMost → node (fresh n) p .log ≡ []
+pub fresh-log : (f : Form) (n p : ℕ) → p < nodesMost → node (fresh f n) p .log ≡ []
 unfolding node records
-fresh-log n p h = rw (fresh-held n p h)
+fresh-log f n p h = rw (fresh-held f n p h)
 
-pub fresh-mark : (n p : ℕ) → p < nodesMost → mark (fresh n) p ≡ 0
+pub fresh-mark : (f : Form) (n p : ℕ) → p < nodesMost → mark (fresh f n) p ≡ 0
 unfolding mark
-fresh-mark n p h = fresh-word n (markAt p) (omega arith) (omega arith)
+fresh-mark f n p h = rw (fresh-form f n) (fresh-word f n (markAt f p) (omega arith) (omega arith))
 
-pub fresh-sound : (n : ℕ) → 2 ≤ n → n ≤ nodesMost → Sound (fresh n)
+pub fresh-sound : (f : Form) (n : ℕ) → 2 ≤ n → n ≤ nodesMost → Sound (fresh f n)
 unfolding all
-fresh-sound n lo hi =
-    let c = fresh-count n in
+fresh-sound f n lo hi =
+    let c = fresh-count f n in
     record {
-      long = fresh-long n;
+      long = fresh-long f n ∙ ap formWords (sym (fresh-form f n));
       low = rw c lo;
       high = rw c hi;
-      room = λ p h. let e = fresh-held n p (omega arith) in omega arith;
-      right = λ p h. rw (fresh-log n p (omega arith));
+      room = λ p h. let e = fresh-held f n p (omega arith) in omega arith;
+      right = λ p h. rw (fresh-log f n p (omega arith));
     }
 
 -- How code answers: a refusal, or what was done
@@ -452,9 +579,13 @@ module _ (t : List ℕ) (s : Sound t) (p : ℕ) where
   unfolding refusal refusals first
   deliver-is-3 h = rw (facts-sound t s, le-leb (count t) p h)
 
-  pub deliver-is-0 : p < count t → refusal t (Deliver p) ≡ 0
+  pub deliver-is-26 : p < count t → formOf t ≡ Columns → refusal t (Deliver p) ≡ 26
   unfolding refusal refusals first
-  deliver-is-0 h = rw (facts-sound t s, lt-leb (count t) p h)
+  deliver-is-26 h f = rw (facts-sound t s, lt-leb (count t) p h, f)
+
+  pub deliver-is-0 : p < count t → formOf t ≡ Vectors → refusal t (Deliver p) ≡ 0
+  unfolding refusal refusals first
+  deliver-is-0 h f = rw (facts-sound t s, lt-leb (count t) p h, f)
 
 module _ (t : List ℕ) (s : Sound t) (a b ca cb o : ℕ) where
   pub session-is-2 : 3 < o → refusal t (Session a b ca cb o) ≡ 2
@@ -541,48 +672,48 @@ unsound-refusal t (Deliver p) h = rw h
 -- A log that has grown still begins with what it held
 pub log-begins :
     (u : List ℕ) (q k : ℕ) (l more : List Record) → node u q .log ≡ l ++ more → length l ≡ k →
-    records k (part (logAt q) (4 * logMost) u) ≡ l
+    records k (part (logAt (formOf u) q) (4 * logMost) u) ≡ l
 unfolding node
 log-begins u q k l more e h =
     let a = ap length e ∙ length-append l more in
-    let b = length-records (held u q) (part (logAt q) (4 * logMost) u) in
-    sym (records-take k (held u q) (part (logAt q) (4 * logMost) u) (omega arith)) ∙ ap (take k) e ∙ take-at l more k h
+    let b = length-records (held u q) (part (logAt (formOf u) q) (4 * logMost) u) in
+    sym (records-take k (held u q) (part (logAt (formOf u) q) (4 * logMost) u) (omega arith)) ∙ ap (take k) e ∙ take-at l more k h
 
 abbrev pub taken : Bool → Node → Node → List Record
 taken true mine theirs = sent mine theirs
 taken false mine theirs = []
 
-pub ended-log : (f : Bool) (x y : Node) → ended f x y .log ≡ x .log ++ taken f x y
+pub ended-log : (f : Bool) (p : ℕ) (x y : Node) → ended f p x y .log ≡ x .log ++ taken f x y
 unfolding finished
-ended-log true x y = refl
-ended-log false x y = sym (append-nil (x .log))
+ended-log true p x y = refl
+ended-log false p x y = sym (append-nil (x .log))
 
 -- The table after one side, for any two nodes that fit it
 module _ (t : List ℕ) (s : Sound t) (p q : ℕ) (hp : p < count t) (hq : q < count t) (other : q ≡ p → ⊥) (x y : Node)
-    (fx : Shaped (count t) x) (fy : Shaped (count t) y) (f : Bool) (room : overfull f x y ≡ false)
+    (fx : Shaped (formOf t) (count t) p x) (fy : Shaped (formOf t) (count t) q y) (f : Bool) (room : overfull f x y ≡ false)
     (lx : x .log ≡ node t p .log) (ly : y .log ≡ node t q .log) where
-  fits : Shaped (count t) (ended f x y)
-  fits = ended-shaped (count t) x fx y fy f room
+  fits : Shaped (formOf t) (count t) p (ended f p x y)
+  fits = ended-shaped (formOf t) (count t) p x fx q y fy f room
 
   abbrev pub once : List ℕ
-  once = putNode p (ended f x y) t
+  once = putNode p (ended f p x y) t
 
   pub once-sound : Sound once
   once-sound =
-      sound-put t s p hp (ended f x y) fits
-      (ended-right (count t) x y f (ap (all (recordSound (count t))) lx ∙ s .right p hp) (ap (all (recordSound (count t))) ly ∙ s .right q hq))
+      sound-put t s p hp (ended f p x y) fits
+      (ended-right (count t) p x y f (ap (all (recordSound (count t))) lx ∙ s .right p hp) (ap (all (recordSound (count t))) ly ∙ s .right q hq))
 
   pub once-count : count once ≡ count t
-  once-count = put-count t s p hp (ended f x y) fits
+  once-count = put-count t s p hp (ended f p x y) fits
 
   pub once-log : node once q .log ≡ node t q .log
-  once-log = ap (λ (z : Node). z .log) (node-other t s p hp (ended f x y) fits q hq other)
+  once-log = ap (λ (z : Node). z .log) (node-other t s p hp (ended f p x y) fits q hq other)
 
   pub once-held : held once q ≡ held t q
   once-held = held-log once q ∙ ap length once-log ∙ sym (held-log t q)
 
-  pub once-began : (k : ℕ) → k ≡ held t p → records k (part (logAt p) (4 * logMost) once) ≡ node t p .log
+  pub once-began : (k : ℕ) → k ≡ held t p → records k (part (logAt (formOf once) p) (4 * logMost) once) ≡ node t p .log
   once-began k e =
       log-begins once p k (node t p .log) (taken f x y)
-      (ap (λ (z : Node). z .log) (node-same t s p hp (ended f x y) fits) ∙ ended-log f x y ∙ ap (λ (l : List Record). l ++ taken f x y) lx)
+      (ap (λ (z : Node). z .log) (node-same t s p hp (ended f p x y) fits) ∙ ended-log f p x y ∙ ap (λ (l : List Record). l ++ taken f x y) lx)
       (sym (held-log t p) ∙ sym e)

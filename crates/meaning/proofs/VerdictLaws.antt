@@ -15,7 +15,7 @@ use Rattle.meaning.specs.declared.Count.{Count}
 use Rattle.meaning.specs.declared.Count.the-variants.{Counted, Refused}
 use Rattle.meaning.specs.Rows.{every, all, keep, recordAt, records}
 use Rattle.meaning.specs.Refusals.{test, first}
-use Rattle.meaning.specs.Table.{logMost, logAt, part, count, held, node, sound, recordSound}
+use Rattle.meaning.specs.Table.{formOf, logMost, logAt, part, count, held, node, sound, recordSound}
 use Rattle.meaning.specs.Verdicts.{
   classOf,
   isScrubbed,
@@ -147,12 +147,12 @@ sound-byte n r = and-right (ltb (r .origin) n) (leb (r .verdict) 255)
 
 -- The count over a node's log: the held part of the log, as a list of words, is counted.
 module _ (t : List ℕ) (p : ℕ) where
-  held-records : (h k at : ℕ) → h ≡ held t p → at ≡ logAt p → k ≡ 4 * h → h ≤ logMost → records h (take k (drop at t)) ≡ node t p .log
+  held-records : (h k at : ℕ) → h ≡ held t p → at ≡ logAt (formOf t) p → k ≡ 4 * h → h ≤ logMost → records h (take k (drop at t)) ≡ node t p .log
   unfolding node part
   held-records h k at eh ea ek room =
       rw (ea, ek, ← eh)
-      (records-agree h (take (4 * h) (drop (logAt p) t)) (take (4 * logMost) (drop (logAt p) t))
-      (λ m below. getD-take (4 * h) (drop (logAt p) t) m 0 below ∙ sym (getD-take (4 * logMost) (drop (logAt p) t) m 0 (omega arith))))
+      (records-agree h (take (4 * h) (drop (logAt (formOf t) p) t)) (take (4 * logMost) (drop (logAt (formOf t) p) t))
+      (λ m below. getD-take (4 * h) (drop (logAt (formOf t) p) t) m 0 below ∙ sym (getD-take (4 * logMost) (drop (logAt (formOf t) p) t) m 0 (omega arith))))
 
   pub node-unsound : sound t ≡ false → Refused 1 ≡ nodeCount t p
   unfolding nodeCount first
@@ -162,7 +162,7 @@ module _ (t : List ℕ) (p : ℕ) where
   unfolding nodeCount first
   node-absent n h en absent = rw (h, ← en, le-leb n p absent)
 
-  pub node-counted : (h k at : ℕ) (r : Count) → sound t ≡ true → p < count t → h ≡ held t p → at ≡ logAt p
+  pub node-counted : (h k at : ℕ) (r : Count) → sound t ≡ true → p < count t → h ≡ held t p → at ≡ logAt (formOf t) p
       → r ≡ verdictCount (take k (drop at t)) → k ≡ 4 * h → r ≡ nodeCount t p
   unfolding nodeCount verdictCount first
   node-counted h k at r good present eh ea er ek =

@@ -8,7 +8,7 @@ use Rattle.meaning.specs.declared.Action.{Action}
 use Rattle.meaning.specs.declared.Action.the-variants.{Write, Session, Purge, Deliver}
 use Rattle.meaning.specs.declared.Step.{Step}
 use Rattle.meaning.specs.Rows.{keep}
-use Rattle.meaning.specs.Table.{fresh}
+use Rattle.meaning.specs.Table.{Form, fresh}
 use Rattle.meaning.specs.Steps.{finishesA, finishesB, refusal, after}
 
 -- one record is another, word for word; a list has a record
@@ -82,9 +82,9 @@ unfoldable pub ran : Run → List Event → Run
 ran x [] = x
 ran x (e ∷ es) = ran (befell x e) es
 
--- "Start from a fresh table of 2 to 16 nodes and take any list of steps"
-abbrev pub begun : ℕ → Run
-begun n = record { table = fresh n; account = nothing }
+-- "Start from a fresh table of 2 to 16 nodes and take any list of steps", of either form
+abbrev pub begun : Form → ℕ → Run
+begun f n = record { table = fresh f n; account = nothing }
 
-unfoldable pub run : ℕ → List Event → Run
-run n es = ran (begun n) es
+unfoldable pub run : Form → ℕ → List Event → Run
+run f n es = ran (begun f n) es

@@ -14,7 +14,7 @@ use Rattle.meaning.specs.declared.Next.the-variants.{Begin as BeginAt, A
 use Rattle.meaning.specs.declared.Outcome.{Outcome}
 use Rattle.meaning.specs.declared.Outcome.the-variants.{Bad, Refused as Unread, Done}
 use Rattle.meaning.specs.Rows.{ascii}
-use Rattle.meaning.specs.Table.{Node, fresh, node}
+use Rattle.meaning.specs.Table.{Vectors, Node, fresh, node}
 use Rattle.meaning.specs.Steps.{refusal, after}
 use Rattle.meaning.specs.Frames.{kindOf, fieldsOf, readLine}
 
@@ -142,7 +142,7 @@ refusedOf t (s ∷ ss) = oneIf (refusal t (s .action)) + refusedOf (after t (s .
 
 -- The replay's outcome, and the table: the caller's own where the first line is refused, else a fresh one after the steps before the refused line
 abbrev pub outcomeOf : ℕ → Journal → Outcome
-outcomeOf zero j = Done (j .n) (length (j .rest .steps)) (refusedOf (fresh (j .n)) (j .rest .steps))
+outcomeOf zero j = Done (j .n) (length (j .rest .steps)) (refusedOf (fresh Vectors (j .n)) (j .rest .steps))
 outcomeOf (suc k) j = Bad (j .rest .badLine) (suc k) (j .rest .badPlace)
 
 -- document 01's values: the refused line, its number and place; no line and the number alone; or no refusal and the three counts
@@ -156,7 +156,7 @@ replayed s = outcomeOf (journal s .rest .badNumber) (journal s)
 
 abbrev pub startedFrom : ℕ → List ℕ → List ℕ
 startedFrom zero t = t
-startedFrom (suc n) t = fresh (suc n)
+startedFrom (suc n) t = fresh Vectors (suc n)
 
 unfoldable pub replayAfter : List ℕ → List ℕ → List ℕ
 replayAfter t s = afterAll (startedFrom (journal s .n) t) (journal s .rest .steps)

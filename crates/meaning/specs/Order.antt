@@ -4,7 +4,7 @@ use Prim.Native.Nat.{ℕ, zero, suc}
 use Rattle.meaning.specs.declared.Record.{Record}
 use Rattle.meaning.specs.declared.Action.{Action}
 use Rattle.meaning.specs.declared.Action.the-variants.{Write, Session, Purge, Deliver}
-use Rattle.meaning.specs.Table.{mark, node}
+use Rattle.meaning.specs.Table.{Vectors, mark, node}
 use Rattle.meaning.specs.Node.{given}
 use Rattle.meaning.specs.Steps.{refusal}
 use Rattle.meaning.specs.Account.{gains, Run, Event, AStep, befell, begun}
@@ -28,6 +28,6 @@ unfoldable pub hears : Run → (ℕ → List Record) → List Event → ℕ → 
 hears x lists [] = lists
 hears x lists (e ∷ es) = hears (befell x e) (heard x e lists) es
 
--- the list of each node after these events on a fresh table of n
+-- the list of each node after these events on a fresh table of n with vectors: on columns "there is no delivery"
 unfoldable pub orderOf : ℕ → List Event → ℕ → List Record
-orderOf n es = hears (begun n) (λ p. []) es
+orderOf n es = hears (begun Vectors n) (λ p. []) es

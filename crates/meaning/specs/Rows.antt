@@ -1,4 +1,4 @@
--- What is said of a row of numbers or a list of records. Document 01, "The three actions"; document 02, T-02 and T-04.
+-- What is said of a row of numbers or a list of records. Document 01, "The three actions"; document 02, T-02, T-04 and T-06.
 use mathlib.Core.Bool.{Bool, true, false, not, _&&_, _||_, cond}
 use mathlib.Core.List.{List, [], _∷_, _++_}
 use Prim.Native.Nat.{ℕ, zero, suc, _+_, _*_, min, max}
@@ -57,6 +57,24 @@ unfoldable pub raise : List ℕ → List ℕ → List ℕ
 raise [] ys = []
 raise (x ∷ xs) [] = []
 raise (x ∷ xs) (y ∷ ys) = max x y ∷ raise xs ys
+
+-- T-06. The same of columns, one after the other
+unfoldable pub raiseEach : List (List ℕ) → List (List ℕ) → List (List ℕ)
+raiseEach [] ds = []
+raiseEach (c ∷ cs) [] = []
+raiseEach (c ∷ cs) (d ∷ ds) = raise c d ∷ raiseEach cs ds
+
+-- entry by entry, the smaller of both
+unfoldable pub lower : List ℕ → List ℕ → List ℕ
+lower [] ys = []
+lower (x ∷ xs) [] = []
+lower (x ∷ xs) (y ∷ ys) = min x y ∷ lower xs ys
+
+-- and the smallest of all columns: it covers the records that every column covers (PurgeLaws), so a purge may ask each record once
+unfoldable pub lowest : List (List ℕ) → List ℕ
+lowest [] = []
+lowest (c ∷ []) = c
+lowest (c ∷ (d ∷ ds)) = lower c (lowest (d ∷ ds))
 
 -- "A summary covers a record when the record's timestamp is at most the entry for its origin."
 unfoldable pub covers : List ℕ → Record → Bool

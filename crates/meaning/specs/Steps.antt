@@ -1,8 +1,8 @@
 -- Steps on a table: the refusal number, the reply and the words at exit, for every list of words and every action.
--- Document 01, "The three actions" and "Refusal numbers and their order"; document 02, T-04.
-use mathlib.Core.Bool.{Bool, false, not, _&&_, _||_, cond}
+-- Document 01, "The three actions" and "Refusal numbers and their order"; document 02, T-04 and T-06.
+use mathlib.Core.Bool.{Bool, true, false, not, _&&_, _||_, cond}
 use mathlib.Core.List.{List, [], _∷_, _++_}
-use Prim.Native.Nat.{ℕ, zero, suc, _-_, _*_, min}
+use Prim.Native.Nat.{ℕ, zero, suc, _-_, _*_}
 use lib.ListN.{length}
 use lib.Dec.{leb, ltb, eqb}
 use Rattle.meaning.specs.declared.Action.{Action}
@@ -10,10 +10,24 @@ use Rattle.meaning.specs.declared.Action.the-variants.{Write, Session, P
 use Rattle.meaning.specs.declared.Record.{Record}
 use Rattle.meaning.specs.declared.Reply.{Reply}
 use Rattle.meaning.specs.declared.Reply.the-variants.{Written, Carried, Purged, Delivered, Refused}
-use Rattle.meaning.specs.Rows.{unless, least, leastAt, words}
+use Rattle.meaning.specs.Rows.{unless, leastAt, words}
 use Rattle.meaning.specs.Refusals.{Test, test, first}
-use Rattle.meaning.specs.Table.{Node, logMost, place, absent, mark, node, putNode, putMark, sound}
-use Rattle.meaning.specs.Node.{own, wrote, opened, sent, finished, ended, purged, waiting, given, raised}
+use Rattle.meaning.specs.Table.{
+  Form,
+  Vectors,
+  Columns,
+  formOf,
+  Node,
+  logMost,
+  place,
+  absent,
+  mark,
+  node,
+  putNode,
+  putMark,
+  sound,
+}
+use Rattle.meaning.specs.Node.{own, wrote, opened, sent, ended, purged, limitOf, leaves, lows, waiting, given, raised}
 
 -- "outcome 0 finishes neither side, 1 only a, 2 only b, 3 both"
 abbrev pub finishesA : ℕ → Bool
@@ -31,7 +45,12 @@ outcomeAbove (Deliver p) = false
 
 -- a finishing side would hold more than 64; "Number 6 asks nothing of a side that doesn't finish."
 abbrev pub overfull : Bool → Node → Node → Bool
-overfull finishes mine theirs = finishes && ltb logMost (length (finished mine theirs .log))
+overfull finishes mine theirs = finishes && ltb logMost (length (mine .log ++ sent mine theirs))
+
+-- "a delivery on a column table": "T-04's order needs clocks that agree"
+abbrev pub onColumns : Form → Bool
+onColumns Vectors = false
+onColumns Columns = true
 
 -- "For a step, the first that applies is given": for each action the rows that it can meet, in document 01's order
 unfoldable pub refusals : List ℕ → Action → List Test
@@ -73,26 +92,32 @@ refusals t (Deliver p) =
     test 1 (not (sound t)) ∷
     -- "a node number is n or more"
     test 3 (absent t p) ∷
+    -- "a delivery on a column table"
+    test 26 (onColumns (formOf t)) ∷
     []
 
 unfoldable pub refusal : List ℕ → Action → ℕ
 refusal t x = first (refusals t x)
 
--- what a purge goes by: "the smallest entry of p's acknowledgement row"; and it "removes only records that are also not above the mark"
+-- what a purge goes by on vectors
 unfoldable pub limit : List ℕ → ℕ → ℕ
-limit t p = min (least (node t p .acks)) (mark t p)
+limit t p = limitOf (mark t p) (node t p)
 
--- who holds a purge up: "the node that has it (the lowest among equals)"
+-- the records that it lets go
+unfoldable pub leaving : List ℕ → ℕ → Record → Bool
+leaving t p = leaves (formOf t) (mark t p) (node t p)
+
+-- who holds a purge up: "the node that has it (the lowest among equals)"; on columns "the first whose column has the smallest entry of all"
 unfoldable pub lagging : List ℕ → ℕ → ℕ
-lagging t p = leastAt (node t p .acks)
+lagging t p = leastAt (lows (formOf t) (node t p))
 
 -- The words that an accepted action leaves. Both sides of a session work from the starting values.
 unfoldable pub acted : List ℕ → Action → List ℕ
 acted t (Write p c b v) = putNode p (wrote p c b v (node t p)) t
 acted t (Session a b ca cb o) =
-    putNode b (ended (finishesB o) (opened b cb (node t b)) (opened a ca (node t a)))
-    (putNode a (ended (finishesA o) (opened a ca (node t a)) (opened b cb (node t b))) t)
-acted t (Purge p) = putNode p (purged (limit t p) (node t p)) t
+    putNode b (ended (finishesB o) b (opened b cb (node t b)) (opened a ca (node t a)))
+    (putNode a (ended (finishesA o) a (opened a ca (node t a)) (opened b cb (node t b))) t)
+acted t (Purge p) = putNode p (purged (leaving t p) (node t p)) t
 acted t (Deliver p) = putMark p (raised (mark t p) (node t p)) t
 
 -- "how many records it carried to each side (0 for a side that didn't finish)"
@@ -104,7 +129,7 @@ reported t (Write p c b v) = Written
 reported t (Session a b ca cb o) =
     Carried (carried (finishesA o) (opened a ca (node t a)) (opened b cb (node t b)))
     (carried (finishesB o) (opened b cb (node t b)) (opened a ca (node t a)))
-reported t (Purge p) = Purged (length (node t p .log) - length (purged (limit t p) (node t p) .log)) (lagging t p)
+reported t (Purge p) = Purged (length (node t p .log) - length (purged (leaving t p) (node t p) .log)) (lagging t p)
 reported t (Deliver p) = Delivered (length (waiting (mark t p) (node t p)))
 
 -- A refusal "reports zero counts and changes no word".

@@ -13,7 +13,7 @@ fn node_line(out: &mut [u8], at: usize, p: usize, t: &[u32]) -> usize
     ensures { λ r. ⌜ Wrote (now (out .entry)) at (nodeLine p (node (now (t .entry)) p)) 720 r (now (out .exit)) ⌝ }
 {
     let a = printing::number(out, at, p);
-    let b = nodeparts::vector(out, a, b" S", t, layout::summary_at(p));
+    let b = nodeparts::vector(out, a, b" S", t, layout::summary_at(t, p));
     let c = nodeparts::vector(out, b, b" K", t, layout::acks_at(p));
     let d = nodeparts::held_part(out, c, t, p);
     printing::put(out, d, b'\n')

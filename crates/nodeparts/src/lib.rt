@@ -23,6 +23,6 @@ pub fn held_part(out: &mut [u8], at: usize, t: &[u32], p: usize) -> usize
     requires { ⌜ Nodes (now t) × (p < nodesMost) × (at + 23 ≤ length (now out)) ⌝ }
     ensures { λ r. ⌜ Wrote (now (out .entry)) at (said " L" (held (now (t .entry)) p ∷ [])) 23 r (now (out .exit)) ⌝ }
 {
-    let from = layout::held_at(p);
-    wording::said_one(out, at, b" L", t[from] as usize)
+    let held = layout::held_of(t, p) as usize;
+    wording::said_one(out, at, b" L", held)
 }

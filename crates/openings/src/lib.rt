@@ -29,16 +29,19 @@ fn row_with(row: &mut [u32], t: &[u32], at: usize, i: usize, v: u32)
 }
 
 // "the own summary entry becomes the reading, then the own acknowledgement entry becomes the smallest entry of that summary": the starting
-// values of a node, "what each sends", are the first n entries of both rows.
+// values of a node, "what each sends", are the first n entries of both rows. A node of columns has no acknowledgement: `acks` is left as it is.
 pub fn opening(summary: &mut [u32], acks: &mut [u32], t: &[u32], p: usize, n: usize, reading: u32)
     requires { ⌜ (length (now summary) ≡ nodesMost) × (length (now acks) ≡ nodesMost) ⌝ }
     requires { ⌜ Sound (now t) × (p < count (now t)) × (n ≡ count (now t)) ⌝ }
     ensures { λ _. ⌜ Starts (now (t .entry)) p n reading (now (summary .exit)) (now (acks .exit)) ⌝ }
 {
-    let at = layout::summary_at(p);
+    let at = layout::summary_at(t, p);
+    row_with(summary, t, at, p, reading);
+    if layout::has_columns(t) {
+        return;
+    }
     let end = at + n;
     let low = least_with(&t[at..end], p, reading);
-    row_with(summary, t, at, p, reading);
     row_with(acks, t, layout::acks_at(p), p, low.value);
 }
 
@@ -61,7 +64,7 @@ pub fn overfills(
     if had + shown <= layout::LOG_MOST {
         return false;
     }
-    let at = layout::log_at(q);
+    let at = layout::log_at(t, q);
     let end = at + layout::LOG_WORDS;
     layout::LOG_MOST < had + newer_count(known, &t[at..end], shown)
 }

@@ -20,6 +20,8 @@ use Rattle.pollencart.proofs.reads.pollencart_summary.Kinds as summary-
 use Rattle.pollencart.proofs.reads.pollencart_summary.Reads as summary
 use Rattle.pollencart.proofs.reads.pollencart_acknowledgement.Kinds as acknowledgement-kinds
 use Rattle.pollencart.proofs.reads.pollencart_acknowledgement.Reads as acknowledgement
+use Rattle.pollencart.proofs.reads.pollencart_column.Kinds as column-kinds
+use Rattle.pollencart.proofs.reads.pollencart_column.Reads as column
 use Rattle.pollencart.proofs.reads.pollencart_held.Kinds as held-kinds
 use Rattle.pollencart.proofs.reads.pollencart_held.Reads as held
 use Rattle.pollencart.proofs.reads.pollencart_record.Kinds as record-kinds
@@ -51,6 +53,9 @@ one-summary κs a x y s s' p q = p ∙ sym q
 
 pub one-acknowledgement : OneResult 1 acknowledgement-kinds.ps acknowledgement-kinds.r acknowledgement.Post
 one-acknowledgement κs a x y s s' p q = p ∙ sym q
+
+pub one-column : OneResult 1 column-kinds.ps column-kinds.r column.Post
+one-column κs a x y s s' p q = p ∙ sym q
 
 pub one-held : OneResult 1 held-kinds.ps held-kinds.r held.Post
 one-held κs a x y s s' p q = p ∙ sym q

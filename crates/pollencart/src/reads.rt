@@ -1,8 +1,8 @@
 // What C reads of a table: one scan for soundness a call, and 0 where there is none. Thin over the crate `entries`.
 ghost use mathlib.Core.Path.{_≡_};
-ghost use Rattle.entries.specs.Entries.{summaryEntry, ackEntry, heldNumber, recordWord, markEntry};
+ghost use Rattle.entries.specs.Entries.{summaryEntry, ackEntry, columnEntry, heldNumber, recordWord, markEntry};
 
-// A node's summary entry for an origin.
+// A node's summary entry for an origin, on columns that of its own column.
 #[no_mangle]
 pub extern "C" fn pollencart_summary(table: &[u32], node: u8, origin: u8) -> u32
     ensures { λ r. ⌜ r ≡ summaryEntry (now (table .entry)) node origin ⌝ }
@@ -10,12 +10,20 @@ pub extern "C" fn pollencart_summary(table: &[u32], node: u8, origin: u8) -> u32
     entries::summary_of(table, node, origin)
 }
 
-// What a node knows that another has acknowledged.
+// What a node knows that another has acknowledged, 0 on columns.
 #[no_mangle]
 pub extern "C" fn pollencart_acknowledgement(table: &[u32], node: u8, of: u8) -> u32
     ensures { λ r. ⌜ r ≡ ackEntry (now (table .entry)) node of ⌝ }
 {
     entries::ack_of(table, node, of)
+}
+
+// What a node knows that the node of a column has of an origin, 0 on vectors.
+#[no_mangle]
+pub extern "C" fn pollencart_column(table: &[u32], node: u8, column: u8, origin: u8) -> u32
+    ensures { λ r. ⌜ r ≡ columnEntry (now (table .entry)) node column origin ⌝ }
+{
+    entries::column_of(table, node, column, origin)
 }
 
 // The number of records that a node holds.

@@ -18,7 +18,7 @@ pub fn min_of(x: u32, y: u32) -> u32
     if x <= y { x } else { y }
 }
 
-fn max_of(x: u32, y: u32) -> u32
+pub fn max_of(x: u32, y: u32) -> u32
     ensures { λ r. ⌜ r ≡ Prim.Native.Nat.max x y ⌝ }
 {
     if x <= y { y } else { x }

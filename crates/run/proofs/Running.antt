@@ -12,10 +12,10 @@ use Rattle.meaning.specs.declared.Next.the-variants.{Begin as BeginAt, Act as A
 use Rattle.meaning.specs.declared.Outcome.{Outcome}
 use Rattle.meaning.specs.declared.Outcome.the-variants.{Bad, Refused, Done}
 use Rattle.meaning.specs.declared.Progress.{Progress}
-use Rattle.meaning.specs.Table.{tableWords, nodesMost, countRight, fresh, madeFresh, Sound}
+use Rattle.meaning.specs.Table.{Vectors, formWords, nodesMost, countRight, fresh, madeFresh, Sound}
 use Rattle.meaning.specs.Journals.{Journal, broken, nextAt, stepsFrom, journal, afterAll, outcomeOf, replayed, startedFrom, replayAfter}
 use Rattle.meaning.proofs.RowLaws.{and-left, and-right}
-use Rattle.meaning.proofs.TableLaws.{fresh-right}
+use Rattle.meaning.proofs.TableLaws.{form-is, fresh-right}
 use Rattle.meaning.proofs.StepLaws.{fresh-sound}
 use Rattle.meaning.proofs.AccountJournals.{started}
 use Rattle.meaning.proofs.JournalLaws.{steps-few, bad-line}
@@ -27,7 +27,7 @@ unfolding afterAll
 after-none t = refl
 
 -- how far a journal's steps came gives its outcome: to the end, or to the line after them
-module _ (s : List ℕ) (from n : ℕ) {x : Progress} {t′ : List ℕ} (a : AppliedFrom s from 2 (fresh n) x t′) where
+module _ (s : List ℕ) (from n : ℕ) {x : Progress} {t′ : List ℕ} (a : AppliedFrom s from 2 (fresh Vectors n) x t′) where
   number-is : begunAt n s from .rest .badNumber ≡ x .number
   number-is = sym (ap (λ (y : Progress). y .number) (a .answer))
 
@@ -53,27 +53,29 @@ module _ (s : List ℕ) (from n : ℕ) {x : Progress} {t′ : List ℕ} (a : App
       record { outcome = number ∙ bad-at (begunAt n s from .rest .badNumber) refl h; table = a .table }
 
 -- a fresh table is made, and is sound
-pub made-fresh : (t : List ℕ) (n : ℕ) → length t ≡ tableWords → countRight n ≡ true → madeFresh t n ≡ fresh n
+pub made-fresh : (t : List ℕ) (n : ℕ) → length t ≡ formWords Vectors → countRight n ≡ true → madeFresh t n ≡ fresh Vectors n
 unfolding madeFresh
-made-fresh t n l c = rw (fresh-right t n c l)
+made-fresh t n l c =
+    let form = form-is Vectors t l in
+    rw (fresh-right t n c (rw form l), form)
 
-pub right-sound : (n : ℕ) → countRight n ≡ true → Sound (fresh n)
+pub right-sound : (n : ℕ) → countRight n ≡ true → Sound (fresh Vectors n)
 right-sound n c =
     let low = and-left (leb 2 n) (leb n nodesMost) c in
     let high = and-right (leb 2 n) (leb n nodesMost) c in
-    fresh-sound n (leb-true 2 n low) (leb-true n nodesMost high)
+    fresh-sound Vectors n (leb-true 2 n low) (leb-true n nodesMost high)
 
 -- a run over a table of the wrong length, and of the right one
-pub run-wrong : (t s : List ℕ) → (length t ≡ tableWords → ⊥) → Ran s t (Refused 1) t
+pub run-wrong : (t s : List ℕ) → (length t ≡ formWords Vectors → ⊥) → Ran s t (Refused 1) t
 unfolding runOutcome runAfter
 run-wrong t s h =
-    let e = ne-eqb (length t) tableWords h in
+    let e = ne-eqb (length t) (formWords Vectors) h in
     record { outcome = rw e; table = rw e }
 
-pub run-right : (t s : List ℕ) → length t ≡ tableWords → (replayed s ≡ runOutcome t s) × (replayAfter t s ≡ runAfter t s)
+pub run-right : (t s : List ℕ) → length t ≡ formWords Vectors → (replayed s ≡ runOutcome t s) × (replayAfter t s ≡ runAfter t s)
 unfolding runOutcome runAfter
 run-right t s h =
-    let e = eq-eqb (length t) tableWords h in
+    let e = eq-eqb (length t) (formWords Vectors) h in
     (rw e, rw e)
 
 -- by what a journal begins with
@@ -93,7 +95,7 @@ pub end-is : (s : List ℕ) → nextAt s 0 1 ≡ End → journal s ≡ record { 
 unfolding journal
 end-is s e = rw (e, journal)
 
-pub run-begun : (t s : List ℕ) {n next : ℕ} {r : Outcome} {t′ : List ℕ} → length t ≡ tableWords → nextAt s 0 1 ≡ BeginAt n next → countRight n ≡ true
+pub run-begun : (t s : List ℕ) {n next : ℕ} {r : Outcome} {t′ : List ℕ} → length t ≡ formWords Vectors → nextAt s 0 1 ≡ BeginAt n next → countRight n ≡ true
     → RanFrom s next n r t′ → Ran s t r t′
 unfolding replayed replayAfter
 run-begun t s {n} {next} l e c x =
@@ -107,7 +109,7 @@ run-begun t s {n} {next} l e c x =
           sym (ap (λ (y : Journal). afterAll (startedFrom (y .n) t) (y .rest .steps)) j) ∙ w .1;
     }
 
-pub run-broken : (t s : List ℕ) {k p : ℕ} → length t ≡ tableWords → journal s ≡ record { n = 0; rest = broken 0 1 k p } → 0 < k → Ran s t (Bad 1 k p) t
+pub run-broken : (t s : List ℕ) {k p : ℕ} → length t ≡ formWords Vectors → journal s ≡ record { n = 0; rest = broken 0 1 k p } → 0 < k → Ran s t (Bad 1 k p) t
 unfolding replayed replayAfter
 run-broken t s {k} {p} l j h =
     let w = run-right t s l in

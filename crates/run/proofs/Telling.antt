@@ -13,7 +13,7 @@ use Rattle.meaning.specs.declared.Next.{Next}
 use Rattle.meaning.specs.declared.Next.the-variants.{Begin as BeginAt, Act as ActAt, Refused as RefusedAt, End}
 use Rattle.meaning.specs.declared.Outcome.{Outcome}
 use Rattle.meaning.specs.declared.Outcome.the-variants.{Refused}
-use Rattle.meaning.specs.Table.{tableWords, nodesMost, count, countRight, fresh, place}
+use Rattle.meaning.specs.Table.{Vectors, formWords, nodesMost, count, countRight, fresh, place}
 use Rattle.meaning.specs.Steps.{after}
 use Rattle.meaning.specs.Journals.{Journal, nextAt, journal, afterAll, outcomeOf, replayed, replayAfter, printed, replayText}
 use Rattle.meaning.proofs.RowLaws.{and-left, and-right}
@@ -43,28 +43,28 @@ begun-or-bad s = go (nextAt s 0 1) refl
     go End e = inr (omega (arith, ap (λ (j : Journal). j .rest .badNumber) (end-is s e)))
 
 -- with a start, the replay begins from the fresh table, whatever was lent
-from-fresh : (t s : List ℕ) → countRight (journal s .n) ≡ true → replayAfter t s ≡ afterAll (fresh (journal s .n)) (journal s .rest .steps)
+from-fresh : (t s : List ℕ) → countRight (journal s .n) ≡ true → replayAfter t s ≡ afterAll (fresh Vectors (journal s .n)) (journal s .rest .steps)
 unfolding replayAfter
 from-fresh t s c =
     let low : 2 ≤ journal s .n = leb-true 2 (journal s .n) (and-left (leb 2 (journal s .n)) (leb (journal s .n) nodesMost) c) in
     ap (λ (u : List ℕ). afterAll u (journal s .rest .steps)) (started (journal s .n) t (omega arith))
 
 -- the table that a run leaves has the words to print
-nodes-of : (b : ℕ) (j : Journal) (t : List ℕ) → length t ≡ tableWords → ((countRight (j .n) ≡ true) × (count t ≡ j .n)) ⊎ (0 < b)
+nodes-of : (b : ℕ) (j : Journal) (t : List ℕ) → length t ≡ formWords Vectors → ((countRight (j .n) ≡ true) × (count t ≡ j .n)) ⊎ (0 < b)
     → hasNodes (outcomeOf b j) t ≡ true
 nodes-of zero j t l (inl p) =
     let high : j .n ≤ nodesMost = leb-true (j .n) nodesMost (and-right (leb 2 (j .n)) (leb (j .n) nodesMost) (p .0)) in
-    rw (eq-eqb (length t) tableWords l, p .1, le-leb (j .n) nodesMost high)
+    rw (eq-eqb (length t) (formWords Vectors) l, p .1, le-leb (j .n) nodesMost high)
 nodes-of zero j t l (inr h) = absurd (omega arith)
 nodes-of (suc b) j t l h = refl
 
-run-nodes : (t s : List ℕ) → length (replayAfter t s) ≡ tableWords → hasNodes (replayed s) (replayAfter t s) ≡ true
+run-nodes : (t s : List ℕ) → length (replayAfter t s) ≡ formWords Vectors → hasNodes (replayed s) (replayAfter t s) ≡ true
 unfolding replayed
 run-nodes t s l = nodes-of (journal s .rest .badNumber) (journal s) (replayAfter t s) l (go (begun-or-bad s))
   where
     go : (countRight (journal s .n) ≡ true) ⊎ (0 < journal s .rest .badNumber)
         → ((countRight (journal s .n) ≡ true) × (count (replayAfter t s) ≡ journal s .n)) ⊎ (0 < journal s .rest .badNumber)
-    go (inl c) = inl (c, ap count (from-fresh t s c) ∙ count-all (fresh (journal s .n)) (journal s .rest .steps) ∙ fresh-count (journal s .n))
+    go (inl c) = inl (c, ap count (from-fresh t s c) ∙ count-all (fresh Vectors (journal s .n)) (journal s .rest .steps) ∙ fresh-count Vectors (journal s .n))
     go (inr h) = inr h
 
 -- what is printed does not depend on the words that were lent
@@ -92,46 +92,46 @@ no-text out e = as-text e (record { long = refl; is = sym (place-none 0 out); fi
 
 -- what `show` writes after a run is what the program prints
 module _ (s t out : List ℕ) {x : Outcome} {t′ out′ : List ℕ} {r : ℕ} where
-  pub told-text : length t ≡ tableWords → textMost ≤ length out → Ran s t x t′ → length t′ ≡ tableWords → Shown out (textFor out x t′) r out′
+  pub told-text : length t ≡ formWords Vectors → textMost ≤ length out → Ran s t x t′ → length t′ ≡ formWords Vectors → Shown out (textFor out x t′) r out′
       → RunTold s t out r t′ out′
   told-text l room ran l′ d =
       let w = run-right t s l in
       let is : t′ ≡ replayAfter t s = ran .table ∙ sym (w .1) in
       let o : x ≡ replayed s = ran .outcome ∙ sym (w .0) in
-      let long : length (replayAfter t s) ≡ tableWords = sym (ap length is) ∙ l′ in
+      let long : length (replayAfter t s) ≡ formWords Vectors = sym (ap length is) ∙ l′ in
       let e : textFor out x t′ ≡ printed (replayed s) (replayAfter [] s) =
       rw (o, is) (text-values out (replayed s) (replayAfter t s) room (run-nodes t s long) ∙ run-text t s) in
       record { shown = as-text e d; table = is }
 
 -- nothing written, by the test that led there; too long a journal; any other
 module _ (s t out : List ℕ) where
-  pub replay-none : (length t ≡ tableWords → ⊥) → Replayed s t out 0 t out
+  pub replay-none : (length t ≡ formWords Vectors → ⊥) → Replayed s t out 0 t out
   unfolding textWritten tableLeft
   replay-none h =
-      let e = ne-eqb (length t) tableWords h in
+      let e = ne-eqb (length t) (formWords Vectors) h in
       record { shown = no-text out (rw e); table = rw e }
 
-  pub replay-short : length t ≡ tableWords → length out < textMost → Replayed s t out 0 t out
+  pub replay-short : length t ≡ formWords Vectors → length out < textMost → Replayed s t out 0 t out
   unfolding textWritten tableLeft
   replay-short l h =
-      let e = eq-eqb (length t) tableWords l in
+      let e = eq-eqb (length t) (formWords Vectors) l in
       let f = lt-leb textMost (length out) h in
       record { shown = no-text out (rw (e, f)); table = rw (e, f) }
 
-  pub replay-long : {r : ℕ} {out′ : List ℕ} → length t ≡ tableWords → textMost ≤ length out → journalMost < length s
+  pub replay-long : {r : ℕ} {out′ : List ℕ} → length t ≡ formWords Vectors → textMost ≤ length out → journalMost < length s
       → Shown out (textFor out (Refused 16) t) r out′ → Replayed s t out r t out′
   unfolding textWritten tableLeft replayText printed
   replay-long l room h d =
-      let e = eq-eqb (length t) tableWords l in
+      let e = eq-eqb (length t) (formWords Vectors) l in
       let f = le-leb textMost (length out) room in
       let is : textFor out (Refused 16) t ≡ textWritten s t out = text-values out (Refused 16) t room refl ∙ rw (e, f, lt-ltb journalMost (length s) h) in
       record { shown = as-text is d; table = rw (e, f, lt-leb (length s) journalMost h) }
 
-  pub replay-right : {r : ℕ} {t′ out′ : List ℕ} → length t ≡ tableWords → textMost ≤ length out → length s ≤ journalMost
+  pub replay-right : {r : ℕ} {t′ out′ : List ℕ} → length t ≡ formWords Vectors → textMost ≤ length out → length s ≤ journalMost
       → RunTold s t out r t′ out′ → Replayed s t out r t′ out′
   unfolding textWritten tableLeft replayText
   replay-right l room h d =
-      let e = eq-eqb (length t) tableWords l in
+      let e = eq-eqb (length t) (formWords Vectors) l in
       let f = le-leb textMost (length out) room in
       let is : printed (replayed s) (replayAfter [] s) ≡ textWritten s t out = rw (e, f, le-ltb journalMost (length s) h) in
       record { shown = as-text is (d .shown); table = d .table ∙ rw (e, f, le-leb (length s) journalMost h) }

@@ -7,21 +7,21 @@ use lib.ListN.{length}
 use lib.Dec.{leb, eqb}
 use Rattle.meaning.specs.declared.Outcome.{Outcome}
 use Rattle.meaning.specs.declared.Outcome.the-variants.{Refused as Unread}
-use Rattle.meaning.specs.Table.{tableWords, fresh}
+use Rattle.meaning.specs.Table.{Vectors, formWords, fresh}
 use Rattle.meaning.specs.Journals.{Journal, stepsFrom, afterAll, refusedOf, outcomeOf, replayed, replayAfter, printed, replayText}
 use Rattle.text.specs.Text.{Shown, textMost}
 
 -- A table of the wrong length has no room for a fresh one: refusal 1, of no line and at no place, and no word is changed.
 unfoldable pub runOutcome : List ℕ → List ℕ → Outcome
-runOutcome t s = cond (eqb (length t) tableWords) (replayed s) (Unread 1)
+runOutcome t s = cond (eqb (length t) (formWords Vectors)) (replayed s) (Unread 1)
 
 unfoldable pub runAfter : List ℕ → List ℕ → List ℕ
-runAfter t s = cond (eqb (length t) tableWords) (replayAfter t s) t
+runAfter t s = cond (eqb (length t) (formWords Vectors)) (replayAfter t s) t
 
 -- Document 01's values of a journal's replay, where b is the refused line's number: that line, number and place, or two zeros and the three
 -- counts
 abbrev pub journalValues : ℕ → Journal → List ℕ
-journalValues zero j = 0 ∷ 0 ∷ j .n ∷ length (j .rest .steps) ∷ refusedOf (fresh (j .n)) (j .rest .steps) ∷ []
+journalValues zero j = 0 ∷ 0 ∷ j .n ∷ length (j .rest .steps) ∷ refusedOf (fresh Vectors (j .n)) (j .rest .steps) ∷ []
 journalValues (suc b) j = j .rest .badLine ∷ suc b ∷ j .rest .badPlace ∷ []
 
 -- "Number 16, only from the program: the journal exceeds 65,536 bytes."
@@ -30,7 +30,7 @@ journalMost = 65536
 
 -- The lent words and bytes have room: those of a table, and those of every text
 abbrev pub roomy : List ℕ → List ℕ → Bool
-roomy t out = eqb (length t) tableWords && leb textMost (length out)
+roomy t out = eqb (length t) (formWords Vectors) && leb textMost (length out)
 
 -- What the program prints, from place 0 of the lent bytes; nothing where they or the table are of the wrong length
 unfoldable pub textWritten : List ℕ → List ℕ → List ℕ → List ℕ
@@ -48,7 +48,7 @@ begunAt n s from = record { n = n; rest = stepsFrom (length s) s from 2 }
 -- A journal from there on: the outcome, and a fresh table after its steps
 pub record RanFrom (s : List ℕ) (from n : ℕ) (r : Outcome) (t′ : List ℕ) : Type 0 where
   pub outcome : r ≡ outcomeOf (begunAt n s from .rest .badNumber) (begunAt n s from)
-  pub table : t′ ≡ afterAll (fresh n) (begunAt n s from .rest .steps)
+  pub table : t′ ≡ afterAll (fresh Vectors n) (begunAt n s from .rest .steps)
 
 -- A whole journal over a lent table
 pub record Ran (s t : List ℕ) (r : Outcome) (t′ : List ℕ) : Type 0 where

@@ -4,7 +4,7 @@ ghost use mathlib.Core.Path.{_≡_};
 ghost use Prim.Native.Nat.{_≤_, _<_};
 ghost use lib.ListN.{length};
 ghost use mathlib.Core.Bool.{true};
-ghost use Rattle.meaning.specs.Table.{tableWords, countRight};
+ghost use Rattle.meaning.specs.Table.{Vectors, formWords, countRight};
 ghost use Rattle.text.specs.Text.{textMost};
 ghost use Rattle.run.specs.Run.{RanFrom, Ran, RunTold, Replayed};
 use layout::TABLE_WORDS;
@@ -17,7 +17,7 @@ pub const JOURNAL_MOST: usize = 65536;
 
 // A start of n nodes: a fresh table, then the steps after its line. The start is line 1, so a refused line has the number `steps + 2`.
 fn from_start(s: &[u8], from: usize, n: u32, t: &mut [u32]) -> Outcome
-    requires { ⌜ (length (now t) ≡ tableWords) × (countRight n ≡ true) × (0 < from) × (from ≤ length (now s)) ⌝ }
+    requires { ⌜ (length (now t) ≡ formWords Vectors) × (countRight n ≡ true) × (0 < from) × (from ≤ length (now s)) ⌝ }
     ensures { λ r. ⌜ RanFrom (now (s .entry)) from n r (now (t .exit)) ⌝ }
 {
     table::fresh(t, n);
@@ -66,7 +66,7 @@ pub fn run(s: &[u8], t: &mut [u32]) -> Outcome
 
 // The text of a run's outcome and of the table that it leaves.
 fn told(s: &[u8], t: &mut [u32], out: &mut [u8]) -> usize
-    requires { ⌜ (length (now t) ≡ tableWords) × (textMost ≤ length (now out)) ⌝ }
+    requires { ⌜ (length (now t) ≡ formWords Vectors) × (textMost ≤ length (now out)) ⌝ }
     ensures { λ r. ⌜ RunTold (now (s .entry)) (now (t .entry)) (now (out .entry)) r (now (t .exit)) (now (out .exit)) ⌝ }
 {
     let outcome = run(s, t);

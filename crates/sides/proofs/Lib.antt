@@ -1,1 +1,3 @@
+pub mod KeptLaws
+pub mod RowsLaws
 pub mod SideLaws

@@ -7,11 +7,10 @@ ghost use Prim.Native.Nat.{_<_, _≤_, _*_};
 ghost use lib.ListN.{length};
 ghost use lib.Dec.{ltb};
 ghost use Rattle.meaning.specs.Rows.{every, recordAt};
-ghost use Rattle.meaning.specs.Table.{tableWords, nodesMost, logMost, count, recordSound, logSound, sound};
+ghost use Rattle.meaning.specs.Table.{formOf, formWords, nodesMost, logMost, count, recordSound, logSound, sound};
 use layout::LOG_MOST;
 use layout::NODES_MOST;
 use layout::RECORD_WORDS;
-use layout::TABLE_WORDS;
 
 // 1 for an origin that is not below n, else 0.
 fn beyond(origin: u32, n: u32) -> u32
@@ -38,21 +37,21 @@ fn records_sound(w: &[u32], held: usize, n: u32) -> bool
 
 // The same of node p's log, with "every held number of a node below n is at most 64" before it.
 fn log_sound(t: &[u32], n: u32, p: usize) -> bool
-    requires { ⌜ (length (now t) ≡ tableWords) × (n ≡ count (now t)) × (p < nodesMost) ⌝ }
+    requires { ⌜ (length (now t) ≡ formWords (formOf (now t))) × (n ≡ count (now t)) × (p < nodesMost) ⌝ }
     ensures { λ r. ⌜ r ≡ logSound (now (t .entry)) p ⌝ }
 {
     let held = layout::held_of(t, p) as usize;
     if LOG_MOST < held {
         return false;
     }
-    let from = layout::log_at(p);
+    let from = layout::log_at(t, p);
     let to = from + RECORD_WORDS * held;
     records_sound(&t[from..to], held, n)
 }
 
 // The same of every node's log.
 fn logs_sound(t: &[u32], n: u32) -> bool
-    requires { ⌜ (length (now t) ≡ tableWords) × (n ≡ count (now t)) × (n ≤ nodesMost) ⌝ }
+    requires { ⌜ (length (now t) ≡ formWords (formOf (now t))) × (n ≡ count (now t)) × (n ≤ nodesMost) ⌝ }
     ensures { λ r. ⌜ r ≡ every n (logSound (now (t .entry))) ⌝ }
 {
     let nodes = n as usize;
@@ -66,11 +65,11 @@ fn logs_sound(t: &[u32], n: u32) -> bool
     true
 }
 
-// "A table is sound if its length is 4,625, its count is 2 to 16, .." of any words that are lent.
+// "A table is sound if its length is 4,641 or 8,225, its count is 2 to 16, .." of any words that are lent.
 pub fn is_sound(t: &[u32]) -> bool
     ensures { λ r. ⌜ r ≡ sound (now (t .entry)) ⌝ }
 {
-    if t.len() != TABLE_WORDS {
+    if !layout::is_long(t) {
         return false;
     }
     let n = layout::count_of(t);

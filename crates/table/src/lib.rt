@@ -13,7 +13,7 @@ use rows::put_word;
 pub mod act;
 
 // "A fresh table has its count set and every other word zero. Making one is refused with 1, the lent words unchanged, if the count or the
-// length is wrong."
+// length is wrong." The length lent tells the form.
 pub fn fresh(t: &mut [u32], n: u32) -> u32
     ensures { λ r. ⌜ (r ≡ freshRefusal (now (t .entry)) n) × (now (t .exit) ≡ madeFresh (now (t .entry)) n) ⌝ }
 {
@@ -23,7 +23,7 @@ pub fn fresh(t: &mut [u32], n: u32) -> u32
     if 16 < n {
         return 1;
     }
-    if t.len() != layout::TABLE_WORDS {
+    if !layout::is_long(t) {
         return 1;
     }
     clear(t);

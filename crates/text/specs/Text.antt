@@ -7,7 +7,7 @@ use lib.ListN.{length, getD}
 use lib.Dec.{leb, eqb}
 use Rattle.meaning.specs.declared.Outcome.{Outcome}
 use Rattle.meaning.specs.declared.Outcome.the-variants.{Bad, Refused, Done}
-use Rattle.meaning.specs.Table.{tableWords, nodesMost, count, place}
+use Rattle.meaning.specs.Table.{Vectors, formWords, nodesMost, count, place}
 use Rattle.meaning.specs.Journals.{outcomeValues, nodeLines}
 use Rattle.textlines.specs.TextLines.{badLine, unreadLine, firstLine}
 
@@ -27,7 +27,7 @@ textMost = 12288
 abbrev pub hasNodes : Outcome → List ℕ → Bool
 hasNodes (Bad line k p) t = true
 hasNodes (Refused k) t = true
-hasNodes (Done n steps refused) t = eqb (length t) tableWords && (leb (count t) nodesMost && leb n nodesMost)
+hasNodes (Done n steps refused) t = eqb (length t) (formWords Vectors) && (leb (count t) nodesMost && leb n nodesMost)
 
 -- A text was written from place 0 of the buffer out, which is then out′; r is its length, for which there is room.
 pub record Shown (out text : List ℕ) (r : ℕ) (out′ : List ℕ) : Type 0 where

@@ -4,7 +4,7 @@ ghost use mathlib.Core.Bool.{true, cond};
 ghost use Prim.Native.Nat.{_-_, _*_, _/_, _%_, _<_, _≤_};
 ghost use lib.ListN.{length};
 ghost use Rattle.meaning.specs.Rows.{recordAt};
-ghost use Rattle.meaning.specs.Table.{tableWords, nodesMost, logMost, held, sound};
+ghost use Rattle.meaning.specs.Table.{formOf, formWords, nodesMost, logMost, held, sound};
 ghost use Rattle.meaning.specs.Verdicts.{classOf, isScrubbed, isTouched, verdictCount, nodeCount};
 ghost use Rattle.pairs.specs.Chains.{Noted, touchedAt};
 use layout::LOG_WORDS;
@@ -196,12 +196,12 @@ pub fn count(words: &[u32]) -> Count
 
 // The count over the log of node p in a sound table.
 fn count_log(t: &[u32], p: usize) -> Count
-    requires { ⌜ (length (now t) ≡ tableWords) × (p < nodesMost) × (held (now t) p ≤ logMost) ⌝ }
+    requires { ⌜ (length (now t) ≡ formWords (formOf (now t))) × (p < nodesMost) × (held (now t) p ≤ logMost) ⌝ }
     requires { ⌜ (sound (now t) ≡ true) × (p < Rattle.meaning.specs.Table.count (now t)) ⌝ }
     ensures { λ r. ⌜ r ≡ nodeCount (now (t .entry)) p ⌝ }
 {
     let held = layout::held_of(t, p) as usize;
-    let from = layout::log_at(p);
+    let from = layout::log_at(t, p);
     let to = from + RECORD_WORDS * held;
     count_records(&t[from..to])
 }

@@ -18,9 +18,12 @@ fn append(t: &mut [u32], p: usize, held: usize, r: Record)
     requires { ⌜ Sound (now t) × (p < count (now t)) × (held ≡ Rattle.meaning.specs.Table.held (now t) p) × (held < logMost) × (r .origin ≡ p) ⌝ }
     ensures { λ _. ⌜ now (t .exit) ≡ putNode p (wrote p (r .timestamp) (r .block) (r .verdict) (node (now (t .entry)) p)) (now (t .entry)) ⌝ }
 {
-    put_record(t, layout::log_at(p) + 4 * held, r);
-    put_word(t, layout::held_at(p), (held + 1) as u32);
-    put_word(t, layout::summary_at(p) + p, r.timestamp);
+    let row = layout::log_at(t, p) + 4 * held;
+    let number = layout::held_at(t, p);
+    let entry = layout::summary_at(t, p) + p;
+    put_record(t, row, r);
+    put_word(t, number, (held + 1) as u32);
+    put_word(t, entry, r.timestamp);
 }
 
 // A write on a sound table, refused with 3, 5 or 6 or done.

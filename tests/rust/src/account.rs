@@ -56,7 +56,11 @@ impl Account {
 
     /// "For any two nodes, one's delivered list must be a beginning of the other's": what fails of it at node p, if anything. And what
     /// it comes from: the list is the written records that are not above the mark, by timestamp and origin; none above it has left the log.
+    /// A table of columns delivers nothing and reads no mark: there it says nothing.
     pub fn out_of_order(&self, table: &Table, p: usize) -> Option<String> {
+        if table.has_columns() {
+            return None;
+        }
         let (mine, mark) = (&self.delivered[p], table.marks[p]);
         for (q, theirs) in self.delivered.iter().enumerate() {
             let both = mine.len().min(theirs.len());
@@ -77,7 +81,7 @@ impl Account {
     pub fn fault(&self, table: &Table, p: usize) -> Option<String> {
         let (list, set) = &self.nodes[p];
         for (i, r) in self.written.iter().enumerate() {
-            if set[i] != (r.timestamp <= table.summaries[p][r.origin as usize]) {
+            if set[i] != (r.timestamp <= table.summary(p)[r.origin as usize]) {
                 return Some(format!("node {p}: its account and its summary disagree on {r:?}"));
             }
         }

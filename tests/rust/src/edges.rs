@@ -2,7 +2,7 @@
 //! numbers written out: the library and the model must both say them.
 
 use crate::account::Account;
-use crate::layout::{NODES, WORDS};
+use crate::layout::{COLUMN_WORDS, NODES, WORDS};
 use crate::library::{Calls, Library, TEXT};
 use crate::lines::{COUNT_ANSWERS, LINE_ANSWERS};
 use crate::model::{count, fresh, read, replay, Action, Record, Table};
@@ -35,7 +35,7 @@ fn steps(library: &mut Library, name: &str, mut table: Table, list: &[(Action, [
     let mut answers = library.run(&calls).ok_or("the library was killed")?;
     for (action, should) in list {
         let reply = table.apply(*action);
-        let (is, after) = (answers.words(3), answers.words(WORDS));
+        let (is, after) = (answers.words(3), answers.words(words.len()));
         table.to_words(&mut words);
         let counts: &[u32] = match action {
             Action::Write { .. } => &[],
@@ -89,6 +89,110 @@ fn all_steps(library: &mut Library) -> Result<(), String> {
     steps(library, "the largest timestamp", two(), &largest)
 }
 
+/// A table of n with columns, node 0 having these for the first nodes.
+fn columned(n: u32, columns: &[&[u32]]) -> Table {
+    let mut table = fresh(COLUMN_WORDS, n).unwrap();
+    for (q, column) in columns.iter().enumerate() {
+        table.columns[0][q][..column.len()].copy_from_slice(column);
+    }
+    table
+}
+
+/// The same, node 0 holding records of these origins and timestamps, at a mark of 0.
+fn knowing(n: u32, columns: &[&[u32]], records: &[(u32, u32)]) -> Table {
+    let mut table = columned(n, columns);
+    for (i, &(origin, timestamp)) in records.iter().enumerate() {
+        table.logs[0][i] = Record { origin, timestamp, block: i as u32, verdict: 0x20 };
+    }
+    table.held[0] = records.len() as u32;
+    table
+}
+
+/// T-06, both sides of each edge of it: what leaves, who lags, and each refusal as for vectors.
+fn all_columns(library: &mut Library) -> Result<(), String> {
+    let (two, purge) = (|| fresh(COLUMN_WORDS, 2).unwrap(), Action::Purge { node: 0 });
+    steps(library, "columns: write at 0, 1, 1", two(), &[(write(0, 0), [5, 0, 0]), (write(0, 1), [0, 0, 0]), (write(0, 1), [5, 0, 0])])?;
+    steps(library, "columns: 0 with 0", two(), &[(write(0, 9), [0, 0, 0]), (session(0, 0, 1, 99, 3), [4, 0, 0])])?;
+    steps(library, "columns: node 2, outcome 4", two(), &[(write(2, 1), [3, 0, 0]), (session(0, 2, 1, 1, 3), [3, 0, 0]), (session(2, 2, 1, 1, 4), [2, 0, 0])])?;
+    steps(library, "columns: equal readings", two(), &[(write(0, 1), [0, 0, 0]), (session(0, 1, 0, 0, 3), [5, 0, 0]), (session(0, 1, 1, 0, 3), [0, 0, 1])])?;
+    // "every column's entry for its origin is at least its timestamp": at it, one below it in the own or in the other, and those for another origin play no part
+    for (own, other, removed, lags) in
+        [([5, 5], [5, 5], 1, 0), ([5, 5], [4, 5], 0, 1), ([4, 5], [5, 5], 0, 0), ([5, 0], [5, 0], 1, 0), ([9, 9], [5, 9], 1, 1), ([6, 1], [6, 0], 1, 1)]
+    {
+        steps(library, "columns: a record at 5", knowing(2, &[&own, &other], &[(0, 5)]), &[(purge, [0, removed, lags])])?;
+    }
+    // nothing is delivered first, and a column or an entry beyond n plays no part
+    steps(library, "columns: two origins", knowing(2, &[&[5, 7, 0], &[6, 6, 0], &[0, 0]], &[(0, 5), (1, 7), (0, 6), (1, 6)]), &[(purge, [0, 2, 0]), (purge, [0, 0, 0])])?;
+    for (columns, lags) in [
+        ([[5, 5, 5], [5, 5, 5], [5, 5, 5]], 0),
+        ([[5, 5, 5], [5, 5, 4], [4, 5, 5]], 1),
+        ([[5, 5, 5], [5, 5, 5], [5, 4, 5]], 2),
+        ([[4, 5, 5], [5, 5, 4], [5, 4, 5]], 0),
+        ([[5, 3, 5], [2, 9, 9], [9, 9, 2]], 1),
+    ] {
+        let rows: Vec<&[u32]> = columns.iter().map(|c| &c[..]).collect();
+        steps(library, "columns: who lags", columned(3, &rows), &[(purge, [0, 0, lags]), (Action::Purge { node: 3 }, [3, 0, 0])])?;
+    }
+    let mut full = fresh(COLUMN_WORDS, 2).unwrap();
+    (1..=64).for_each(|timestamp| assert_eq!(full.apply(write(0, timestamp)).refusal, 0));
+    steps(library, "columns: 64 held", full.clone(), &[(write(0, 65), [6, 0, 0]), (write(0, 64), [5, 0, 0]), (session(0, 1, 65, 1, 1), [0, 0, 0])])?;
+    let mut room = full.clone();
+    (room.held[0], room.logs[0][63]) = (63, Record::default());
+    (room.apply(write(1, 1)), room.apply(write(1, 2)));
+    steps(library, "columns: 63 held and 2 coming", room, &[(session(0, 1, 64, 2, 1), [6, 0, 0]), (session(0, 1, 64, 2, 0), [0, 0, 0])])?;
+    // two sessions let both know of each other, and all leaves at both without a delivery
+    let both = [
+        (session(0, 1, 64, 1, 3), [0, 0, 64]),
+        (purge, [0, 0, 1]),
+        (session(1, 0, 2, 65, 3), [0, 0, 0]),
+        (purge, [0, 64, 0]),
+        (Action::Purge { node: 1 }, [0, 64, 0]),
+        (write(0, 66), [0, 0, 0]),
+    ];
+    steps(library, "columns: all leaves after two sessions", full, &both)
+}
+
+/// A session's words, written out: node 0 and node 1 of three meet at 9 and 8, with each outcome. What stands beyond n stays.
+fn all_learnt(library: &mut Library) -> Result<(), String> {
+    let start = [[[7, 2, 3], [4, 1, 9], [1, 6, 2]], [[8, 1, 3], [3, 5, 6], [2, 5, 5]]];
+    let opened = [[[9, 2, 3], [4, 1, 9], [1, 6, 2]], [[8, 1, 3], [3, 8, 6], [2, 5, 5]]];
+    // of each column the greater; then node 0's own, [9, 2, 3], and node 1's own, [4, 8, 9], take the partner's own starting column
+    let finished = [[[9, 8, 6], [4, 8, 9], [2, 6, 5]], [[9, 2, 3], [9, 8, 9], [2, 6, 5]]];
+    for outcome in 0..4u8 {
+        let mut table = fresh(COLUMN_WORDS, 3).unwrap();
+        let mut beyond = 0;
+        for column in table.columns.iter_mut().flatten() {
+            column.iter_mut().for_each(|entry| {
+                beyond += 1;
+                *entry = beyond;
+            });
+        }
+        let put = |table: &mut Table, p: usize, columns: &[[u32; 3]; 3]| (0..3).for_each(|q| table.columns[p][q][..3].copy_from_slice(&columns[q]));
+        put(&mut table, 0, &start[0]);
+        put(&mut table, 1, &start[1]);
+        let mut after = table.clone();
+        put(&mut after, 0, if outcome & 1 == 1 { &finished[0] } else { &opened[0] });
+        put(&mut after, 1, if outcome & 2 == 2 { &finished[1] } else { &opened[1] });
+        let (mut words, mut should) = (Vec::new(), Vec::new());
+        table.to_words(&mut words);
+        after.to_words(&mut should);
+        let action = session(0, 1, 9, 8, outcome);
+        let mut calls = Calls::default();
+        calls.table(&words);
+        calls.step(action);
+        let mut answers = library.run(&calls).ok_or("the library was killed")?;
+        let (is, left) = (answers.words(3), answers.words(COLUMN_WORDS));
+        let reply = table.apply(action).refusal;
+        if reply != 0 || is != [0, 0, 0] || table != after || left != should {
+            return Err(format!(
+                "columns: a session with outcome {outcome} leaves other words; the library says {is:?}, the model {reply}, and is {}",
+                if table == after { "right" } else { "wrong" }
+            ));
+        }
+    }
+    Ok(())
+}
+
 /// A table of 3 with node 0 at a mark of 4 and summary entries 9, 7, 8: of its records those at 5, 7, 7 and 7 are due.
 fn waiting() -> Table {
     let mut table = fresh(WORDS, 3).unwrap();
@@ -131,6 +235,21 @@ fn all_deliveries(library: &mut Library) -> Result<(), String> {
         let again = table.deliver(node, &mut []).map_or_else(|refusal| refusal, |reply| reply.delivered);
         if should[0] == 0 && again != 0 {
             return Err(format!("a delivery, {name}: once more, and there is something due"));
+        }
+    }
+    // "a delivery on a column table gives 26, after 3", whatever the list; an unsound one 1
+    for (node, many, count, should) in [(0, 0, 2, 26), (1, 256, 2, 26), (2, 256, 2, 3), (2, 0, 2, 3), (255, 0, 2, 3), (0, 256, 17, 1), (255, 0, 17, 1)] {
+        let (mut table, mut words, mut list) = (knowing(2, &[&[9, 9]], &[(0, 5)]), Vec::new(), lent(many));
+        table.count = count;
+        table.to_words(&mut words);
+        let mut calls = Calls::default();
+        calls.table(&words);
+        calls.deliver(node, &list);
+        let mut answers = library.run(&calls).ok_or("the library was killed")?;
+        let reply = table.deliver(node, &mut list).map_or_else(|refusal| refusal, |_| 0);
+        let (is, its_list, after) = (answers.words(3), answers.words(many as usize), answers.words(COLUMN_WORDS));
+        if reply != should || is[..2] != [should, 0] || its_list != lent(many) || after != words {
+            return Err(format!("a delivery of node {node} on columns should say {should}; the library says {is:?}, the model {reply}"));
         }
     }
     Ok(())
@@ -277,13 +396,19 @@ fn all_journals(library: &mut Library) -> Result<(), String> {
 }
 
 fn all_counts(library: &mut Library) -> Result<(), String> {
-    for (n, length, should) in [(1, WORDS, 1), (2, WORDS, 0), (16, WORDS, 0), (17, WORDS, 1), (2, WORDS - 1, 1), (2, WORDS + 1, 1)] {
+    let mut cases = vec![(2, 0, 1), (2, 1, 1), (2, 4625, 1)];
+    for length in [WORDS, COLUMN_WORDS] {
+        cases.extend([(1, length, 1), (2, length, 0), (16, length, 0), (17, length, 1), (2, length - 1, 1), (2, length + 1, 1)]);
+    }
+    for (n, length, should) in cases {
         let mut calls = Calls::default();
         calls.table(&vec![9; length]);
         calls.fresh(n);
         let mut answers = library.run(&calls).ok_or("the library was killed")?;
-        let is = answers.words(3)[0];
-        if is != should || fresh(length, n).map_or(1, |_| 0) != should {
+        let (is, words) = (answers.words(3)[0], answers.words(length));
+        let zeros = |from: usize| words[from..].iter().all(|&word| word == 0);
+        let right = if should == 0 { words[0] == n && zeros(1) } else { words.iter().all(|&word| word == 9) };
+        if is != should || !right || fresh(length, n).map_or(1, |_| 0) != should {
             return Err(format!("a fresh table of {n} in {length} words: the library says {is}"));
         }
     }
@@ -345,6 +470,8 @@ pub fn all(library: &mut Library) -> Result<(), String> {
     order_tells()?;
     all_counts(library)?;
     all_steps(library)?;
+    all_columns(library)?;
+    all_learnt(library)?;
     all_deliveries(library)?;
     all_lines(library)?;
     all_verdicts(library)?;

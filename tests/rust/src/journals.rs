@@ -1,7 +1,7 @@
 //! Whole journals: those of the scenarios, full ones, damaged ones and random bytes; the text that
 //! replay prints and the table that it leaves.
 
-use crate::layout::{JOURNAL, WORDS};
+use crate::layout::{COLUMN_WORDS, JOURNAL, WORDS};
 use crate::library::{Calls, Library, TEXT};
 use crate::model::{frame, replay, start_frame, Action};
 use crate::random::Random;
@@ -108,6 +108,7 @@ pub fn damage(rng: &mut Random, journal: &mut Vec<Vec<u8>>) {
 fn compare(library: &mut Library, journal: &[u8], words: u32, room: u32, reached: &mut Reached) -> Result<(), String> {
     let mut calls = Calls::default();
     calls.replay(journal, words, room);
+    reached.on(0);
     let Some(mut answers) = library.run(&calls) else { return Err("the library was killed".into()) };
     let (length, text, table) = (answers.word(), answers.bytes(room as usize), answers.words(words as usize));
     let nothing = words as usize != WORDS || room < TEXT;
@@ -118,6 +119,9 @@ fn compare(library: &mut Library, journal: &[u8], words: u32, room: u32, reached
         () if done => "replay done".into(),
         () => format!("replay {}", should.trim_end().split(' ').nth(2).unwrap()),
     });
+    if words as usize == COLUMN_WORDS {
+        reached.add("replay nothing on columns");
+    }
     if done && journal.len() == JOURNAL {
         reached.add("replay of 65536 bytes");
     }
@@ -162,7 +166,7 @@ pub fn seed(library: &mut Library, seed: u64, reached: &mut Reached) -> Result<u
     let journal = make(seed);
     let mut rng = Random::new(seed ^ 0x524F_4F4D);
     let (words, room) = match rng.below(40) {
-        0 => (rng.among(&[0, 4625, 4640, 4642]), TEXT),
+        0 | 2 => (rng.among(&[0, 4625, 4640, 4642, 8224, 8225, 8225, 8226]), TEXT),
         1 => (WORDS as u32, rng.among(&[0, 100, TEXT - 1])),
         _ => (WORDS as u32, rng.among(&[TEXT, TEXT, TEXT + 13])),
     };

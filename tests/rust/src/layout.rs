@@ -21,6 +21,11 @@ pub const LOGS: usize = HELD + NODES;
 pub const MARKS: usize = LOGS + NODES * ROOM * RECORD;
 pub const WORDS: usize = MARKS + NODES;
 
+/// A table of columns has 16 × 16 rows of 16 in place of both vectors; what stands behind them stands so much further.
+pub const COLUMNS: usize = COUNT + 1;
+pub const FURTHER: usize = NODES * NODES * NODES - 2 * NODES * NODES;
+pub const COLUMN_WORDS: usize = WORDS + FURTHER;
+
 /// The words of a list that every delivery fits in.
 pub const LIST: usize = ROOM * RECORD;
 
@@ -28,15 +33,25 @@ pub const LIST: usize = ROOM * RECORD;
 pub const JOURNAL: usize = 65_536;
 pub const TEXT: usize = 12_288;
 
-const _: () = assert!(MARKS == 4_625 && WORDS == 4_641);
+const _: () = assert!(MARKS == 4_625 && WORDS == 4_641 && COLUMN_WORDS == 8_225 && COLUMNS + NODES * NODES * NODES == HELD + FURTHER);
 
-/// The word of a record in a log.
+/// The word of a record in a log, in a table of vectors.
 pub fn record_at(p: usize, row: usize, word: usize) -> usize {
     LOGS + RECORD * (ROOM * p + row) + word
 }
 
-/// The place of a word of a table in the documents' terms.
-pub fn place(at: usize) -> String {
+/// The word of an entry of a column.
+pub fn column_at(p: usize, q: usize, o: usize) -> usize {
+    COLUMNS + NODES * (NODES * p + q) + o
+}
+
+/// The place of a word, of a table of so many, in the documents' terms.
+pub fn place(words: usize, at: usize) -> String {
+    if words == COLUMN_WORDS && (COLUMNS..HELD + FURTHER).contains(&at) {
+        let entry = at - COLUMNS;
+        return format!("column of node {} for node {}, entry {}", entry / (NODES * NODES), entry / NODES % NODES, entry % NODES);
+    }
+    let at = if words == COLUMN_WORDS && at > 0 { at - FURTHER } else { at };
     let in_rows = |from: usize| ((at - from) / NODES, (at - from) % NODES);
     if at < SUMMARIES {
         return "the count".into();

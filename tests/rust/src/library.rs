@@ -1,7 +1,7 @@
 //! The library under test: lists of calls, run by executor.c in another process, under an emulator
 //! where need be. The one place that knows how calls and answers are written down.
 
-use crate::layout::WORDS;
+use crate::layout::COLUMN_WORDS;
 use crate::model::{Action, Frame};
 use std::fs::OpenOptions;
 use std::io::{Read, Write};
@@ -88,8 +88,8 @@ impl Calls {
         self.0.extend([10, node.into()]);
     }
 
-    pub fn look(&mut self, node: u8, origin: u8, index: u32, word: u32) {
-        self.0.extend([11, node.into(), origin.into(), index, word]);
+    pub fn look(&mut self, node: u8, column: u8, origin: u8, index: u32, word: u32) {
+        self.0.extend([11, node.into(), column.into(), origin.into(), index, word]);
     }
 
     pub fn apply_line(&mut self, line: &[u8]) {
@@ -186,4 +186,4 @@ fn ask(child: &mut Child) -> std::io::Result<usize> {
 
 /// The most steps whose answers fit.
 pub const BATCH: usize = 48;
-const _: () = assert!(BATCH * (WORDS + 300 + 8) * 4 < HALF);
+const _: () = assert!(BATCH * (COLUMN_WORDS + 300 + 8) * 4 < HALF);

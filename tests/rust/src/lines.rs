@@ -231,6 +231,7 @@ pub fn seed(library: &mut Library, seed: u64, reached: &mut Reached) -> Result<u
     let frames: Vec<(Frame, usize)> = (0..FRAMES).map(|_| (a_frame(&mut rng), rng.among(&[40, 27, 27, 26, 25, 25, 24, 7, 7, 6, 0]))).collect();
     let lists: Vec<Vec<u32>> = (0..LISTS).map(|_| a_list(&mut rng)).collect();
     let mut calls = Calls::default();
+    reached.on(0);
     lines.iter().for_each(|line| calls.line(line));
     frames.iter().for_each(|(frame, room)| calls.frame(*room as u32, *frame));
     lists.iter().for_each(|list| calls.count(list));

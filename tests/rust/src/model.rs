@@ -1,9 +1,9 @@
-//! An independent implementation of documents 01 and 02 in plain Rust: tables as vectors, steps and their
+//! An independent implementation of documents 01 and 02 in plain Rust: tables of both forms, steps and their
 //! refusals, deliveries, frames both ways, journals, the replay's text and the verdict count.
 //! It was written from those documents alone and shares nothing with the proved code.
 #![allow(dead_code)]
 
-use crate::layout::{COUNTS, JOURNAL, LIST, NODES, RECORD, ROOM, WORDS};
+use crate::layout::{COLUMN_WORDS, COUNTS, JOURNAL, LIST, NODES, RECORD, ROOM, WORDS};
 use std::collections::BTreeSet;
 use std::fmt::Write as _;
 
@@ -16,15 +16,51 @@ pub struct Record {
     pub verdict: u32,
 }
 
-/// The parts of a table of 4,641 words, those that take no part included.
+/// The parts of a table, those that take no part included: of 4,641 words with summaries and acknowledgements and no column, or of 8,225 words with
+/// columns and neither of those. `columns[p][q]` is what node p keeps of node q.
 #[derive(Clone, PartialEq, Eq, Debug)]
 pub struct Table {
     pub count: u32,
     pub summaries: Vec<Vec<u32>>,
     pub acknowledgements: Vec<Vec<u32>>,
+    pub columns: Vec<Vec<Vec<u32>>>,
     pub held: Vec<u32>,
     pub logs: Vec<Vec<Record>>,
     pub marks: Vec<u32>,
+}
+
+/// What one node knows: its summary and its acknowledgements, or its columns.
+#[derive(Clone)]
+enum Known {
+    Vectors { summary: Vec<u32>, acknowledgements: Vec<u32> },
+    Columns(Vec<Vec<u32>>),
+}
+
+impl Known {
+    /// The summary of this node p.
+    fn summary(&self, p: usize) -> &[u32] {
+        match self {
+            Known::Vectors { summary, .. } => summary,
+            Known::Columns(columns) => &columns[p],
+        }
+    }
+
+    /// What node p knows after it finished a session with q: "entry by entry, the greater" of what both knew at its start. Of columns this is so of
+    /// each, "and its own column also takes the partner's own".
+    fn finished(&self, p: usize, partner: &Known, q: usize, n: usize) -> Known {
+        let greater = |own: &[u32], other: &[u32]| -> Vec<u32> { own.iter().zip(other).enumerate().map(|(o, (&x, &y))| if o < n { x.max(y) } else { x }).collect() };
+        match (self, partner) {
+            (Known::Vectors { summary, acknowledgements }, Known::Vectors { summary: of_q, acknowledgements: acknowledged }) => {
+                Known::Vectors { summary: greater(summary, of_q), acknowledgements: greater(acknowledgements, acknowledged) }
+            }
+            (Known::Columns(own), Known::Columns(other)) => {
+                let mut columns: Vec<Vec<u32>> = (0..NODES).map(|r| if r < n { greater(&own[r], &other[r]) } else { own[r].clone() }).collect();
+                columns[p] = greater(&columns[p], &other[q]);
+                Known::Columns(columns)
+            }
+            _ => unreachable!("nodes of one table"),
+        }
+    }
 }
 
 /// The four actions, each with its own fields, as wide as in the frame.
@@ -56,13 +92,15 @@ pub enum Frame {
 
 /// "Making one is refused with 1 if the count or the length is wrong."
 pub fn fresh(length: usize, count: u32) -> Result<Table, u32> {
-    if length != WORDS || !COUNTS.contains(&count) {
+    if !(length == WORDS || length == COLUMN_WORDS) || !COUNTS.contains(&count) {
         return Err(1);
     }
+    let (vectors, columns) = if length == WORDS { (NODES, 0) } else { (0, NODES) };
     Ok(Table {
         count,
-        summaries: vec![vec![0; NODES]; NODES],
-        acknowledgements: vec![vec![0; NODES]; NODES],
+        summaries: vec![vec![0; NODES]; vectors],
+        acknowledgements: vec![vec![0; NODES]; vectors],
+        columns: vec![vec![vec![0; NODES]; NODES]; columns],
         held: vec![0; NODES],
         logs: vec![vec![Record::default(); ROOM]; NODES],
         marks: vec![0; NODES],
@@ -70,11 +108,13 @@ pub fn fresh(length: usize, count: u32) -> Result<Table, u32> {
 }
 
 impl Table {
-    /// The table that these words spell, if they are 4,641.
+    /// The table that these words spell, if they are 4,641 or 8,225.
     pub fn from_words(words: &[u32]) -> Option<Table> {
-        if words.len() != WORDS {
-            return None;
-        }
+        let (vectors, columns) = match words.len() {
+            WORDS => (NODES, 0),
+            COLUMN_WORDS => (0, NODES),
+            _ => return None,
+        };
         let mut rest = words;
         let mut take = |many: usize| {
             let (now, later) = rest.split_at(many);
@@ -82,22 +122,20 @@ impl Table {
             now
         };
         let count = take(1)[0];
-        let summaries = (0..NODES).map(|_| take(NODES).to_vec()).collect();
-        let acknowledgements = (0..NODES).map(|_| take(NODES).to_vec()).collect();
+        let summaries = (0..vectors).map(|_| take(NODES).to_vec()).collect();
+        let acknowledgements = (0..vectors).map(|_| take(NODES).to_vec()).collect();
+        let columns = (0..columns).map(|_| (0..NODES).map(|_| take(NODES).to_vec()).collect()).collect();
         let held = take(NODES).to_vec();
         let logs = (0..NODES).map(|_| take(ROOM * RECORD).chunks(RECORD).map(|w| Record { origin: w[0], timestamp: w[1], block: w[2], verdict: w[3] }).collect()).collect();
         let marks = take(NODES).to_vec();
-        Some(Table { count, summaries, acknowledgements, held, logs, marks })
+        Some(Table { count, summaries, acknowledgements, columns, held, logs, marks })
     }
 
     /// Writes the words of the table, in the order of its parts, over `out`.
     pub fn to_words(&self, out: &mut Vec<u32>) {
         out.clear();
         out.push(self.count);
-        for row in &self.summaries {
-            out.extend_from_slice(row);
-        }
-        for row in &self.acknowledgements {
+        for row in self.summaries.iter().chain(&self.acknowledgements).chain(self.columns.iter().flatten()) {
             out.extend_from_slice(row);
         }
         out.extend_from_slice(&self.held);
@@ -113,6 +151,37 @@ impl Table {
         self.count as usize
     }
 
+    /// "The unsynchronised form": each node keeps a column for every node.
+    pub fn has_columns(&self) -> bool {
+        !self.columns.is_empty()
+    }
+
+    /// How many words it has.
+    pub fn length(&self) -> usize {
+        if self.has_columns() {
+            COLUMN_WORDS
+        } else {
+            WORDS
+        }
+    }
+
+    /// A node's summary; of columns "its own being its summary".
+    pub fn summary(&self, p: usize) -> &[u32] {
+        if self.has_columns() {
+            &self.columns[p][p]
+        } else {
+            &self.summaries[p]
+        }
+    }
+
+    pub fn summary_mut(&mut self, p: usize) -> &mut Vec<u32> {
+        if self.has_columns() {
+            &mut self.columns[p][p]
+        } else {
+            &mut self.summaries[p]
+        }
+    }
+
     /// The records that node p holds.
     pub fn log(&self, p: usize) -> &[Record] {
         &self.logs[p][..self.held[p] as usize]
@@ -123,13 +192,26 @@ impl Table {
         COUNTS.contains(&self.count) && (0..self.n()).all(|p| self.held[p] as usize <= ROOM && self.log(p).iter().all(|r| r.origin < self.count && r.verdict <= 255))
     }
 
-    /// The starting summary and acknowledgement row of a session's side.
-    fn opened(&self, p: usize, reading: u32) -> (Vec<u32>, Vec<u32>) {
-        let mut summary = self.summaries[p].clone();
+    /// What a session's side knows at its start: the own summary entry is the reading, and in the vector form "the own acknowledgement entry becomes
+    /// the smallest entry of that summary".
+    fn opened(&self, p: usize, reading: u32) -> Known {
+        if self.has_columns() {
+            let mut columns = self.columns[p].clone();
+            columns[p][p] = reading;
+            return Known::Columns(columns);
+        }
+        let (mut summary, mut acknowledgements) = (self.summaries[p].clone(), self.acknowledgements[p].clone());
         summary[p] = reading;
-        let mut acknowledgement = self.acknowledgements[p].clone();
-        acknowledgement[p] = *summary[..self.n()].iter().min().unwrap();
-        (summary, acknowledgement)
+        acknowledgements[p] = *summary[..self.n()].iter().min().unwrap();
+        Known::Vectors { summary, acknowledgements }
+    }
+
+    /// Node p knows this from now on.
+    fn knows(&mut self, p: usize, known: Known) {
+        match known {
+            Known::Vectors { summary, acknowledgements } => (self.summaries[p], self.acknowledgements[p]) = (summary, acknowledgements),
+            Known::Columns(columns) => self.columns[p] = columns,
+        }
     }
 
     /// What a finishing side takes: the partner's records newer than its own starting summary.
@@ -159,14 +241,14 @@ impl Table {
 
     pub fn write(&mut self, node: u8, timestamp: u32, block: u32, verdict: u8) -> Result<Reply, u32> {
         let p = self.node(node)?;
-        if timestamp <= self.summaries[p][p] {
+        if timestamp <= self.summary(p)[p] {
             return Err(5);
         }
         if self.held[p] as usize == ROOM {
             return Err(6);
         }
         self.append(p, Record { origin: p as u32, timestamp, block, verdict: u32::from(verdict) });
-        self.summaries[p][p] = timestamp;
+        self.summary_mut(p)[p] = timestamp;
         Ok(Reply::default())
     }
 
@@ -178,30 +260,21 @@ impl Table {
         if a == b {
             return Err(4);
         }
-        if ca < self.summaries[a][a] || cb < self.summaries[b][b] {
+        if ca < self.summary(a)[a] || cb < self.summary(b)[b] {
             return Err(5);
         }
         let (a_finishes, b_finishes) = (outcome == 1 || outcome == 3, outcome == 2 || outcome == 3);
-        let (summary_a, acknowledgement_a) = self.opened(a, ca);
-        let (summary_b, acknowledgement_b) = self.opened(b, cb);
-        let for_a = if a_finishes { self.newer(b, &summary_a) } else { Vec::new() };
-        let for_b = if b_finishes { self.newer(a, &summary_b) } else { Vec::new() };
+        let (start_a, start_b) = (self.opened(a, ca), self.opened(b, cb));
+        let for_a = if a_finishes { self.newer(b, start_a.summary(a)) } else { Vec::new() };
+        let for_b = if b_finishes { self.newer(a, start_b.summary(b)) } else { Vec::new() };
         if self.held[a] as usize + for_a.len() > ROOM || self.held[b] as usize + for_b.len() > ROOM {
             return Err(6);
         }
-        let n = self.n();
-        for (p, finishes, own, other, records) in [
-            (a, a_finishes, (&summary_a, &acknowledgement_a), (&summary_b, &acknowledgement_b), &for_a),
-            (b, b_finishes, (&summary_b, &acknowledgement_b), (&summary_a, &acknowledgement_a), &for_b),
-        ] {
-            self.summaries[p].clone_from(own.0);
-            self.acknowledgements[p].clone_from(own.1);
-            if finishes {
-                for q in 0..n {
-                    self.summaries[p][q] = own.0[q].max(other.0[q]);
-                    self.acknowledgements[p][q] = own.1[q].max(other.1[q]);
-                }
-            }
+        // "a side that doesn't finish keeps its starting values"
+        let end_a = if a_finishes { start_a.finished(a, &start_b, b, self.n()) } else { start_a.clone() };
+        let end_b = if b_finishes { start_b.finished(b, &start_a, a, self.n()) } else { start_b };
+        for (p, end, records) in [(a, end_a, &for_a), (b, end_b, &for_b)] {
+            self.knows(p, end);
             for &record in records {
                 self.append(p, record);
             }
@@ -209,14 +282,34 @@ impl Table {
         Ok(Reply { to_a: for_a.len() as u32, to_b: for_b.len() as u32, ..Reply::default() })
     }
 
+    /// The smallest entry that node p keeps of each node: its acknowledgement, or the smallest of its column's entries.
+    pub fn lows(&self, p: usize) -> Vec<u32> {
+        let n = self.n();
+        if self.has_columns() {
+            self.columns[p][..n].iter().map(|column| *column[..n].iter().min().unwrap()).collect()
+        } else {
+            self.acknowledgements[p][..n].to_vec()
+        }
+    }
+
+    /// Whether a purge drops this record of node p's: "every column's entry for its origin is at least its timestamp", and no mark is read; or, in the vector
+    /// form, it is not above the smallest acknowledgement and not above the mark.
+    pub fn goes(&self, p: usize, r: &Record) -> bool {
+        if self.has_columns() {
+            self.columns[p][..self.n()].iter().all(|column| column[r.origin as usize] >= r.timestamp)
+        } else {
+            self.acknowledgements[p][..self.n()].iter().all(|&entry| entry >= r.timestamp) && r.timestamp <= self.marks[p]
+        }
+    }
+
     pub fn purge(&mut self, node: u8) -> Result<Reply, u32> {
         let p = self.node(node)?;
-        let entries = &self.acknowledgements[p][..self.n()];
-        let smallest = *entries.iter().min().unwrap();
-        // "the node that has it (the lowest among equals)"
-        let lags = entries.iter().position(|&entry| entry == smallest).unwrap() as u32;
+        let lows = self.lows(p);
+        let smallest = *lows.iter().min().unwrap();
+        // "the node that has it (the lowest among equals)"; of columns "the first whose column has the smallest entry of all"
+        let lags = lows.iter().position(|&low| low == smallest).unwrap() as u32;
         let before = self.held[p] as usize;
-        let kept: Vec<Record> = self.log(p).iter().filter(|r| r.timestamp > smallest || r.timestamp > self.marks[p]).copied().collect();
+        let kept: Vec<Record> = self.log(p).iter().filter(|r| !self.goes(p, r)).copied().collect();
         for row in 0..before {
             self.logs[p][row] = kept.get(row).copied().unwrap_or_default();
         }
@@ -226,7 +319,7 @@ impl Table {
 
     /// "The smallest summary entry" of a node, among the nodes that there are.
     pub fn smallest_entry(&self, p: usize) -> u32 {
-        *self.summaries[p][..self.n()].iter().min().unwrap()
+        *self.summary(p)[..self.n()].iter().min().unwrap()
     }
 
     /// "By timestamp and then origin, the held records above the mark and not above the smallest summary entry"; those
@@ -243,6 +336,10 @@ impl Table {
             return Err(1);
         }
         let p = self.node(node)?;
+        // "a delivery on a column table gives 26, after 3"
+        if self.has_columns() {
+            return Err(26);
+        }
         let due = self.due(p);
         if list.len() < RECORD * due.len() {
             return Err(7);

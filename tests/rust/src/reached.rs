@@ -1,15 +1,95 @@
 //! How often each refusal number, and each situation that document 01 names, was reached.
 
-use crate::layout::RECORD;
+use crate::layout::{COLUMN_WORDS, RECORD};
 use crate::model::{Action, Record, Table};
 use crate::steps::{Event, MOST};
+use std::borrow::Cow;
 use std::collections::BTreeMap;
 
+/// What was reached and how often, and what stands before the names: the form of the table.
 #[derive(Default)]
-pub struct Reached(BTreeMap<String, u64>);
+pub struct Reached(BTreeMap<String, u64>, &'static str);
+
+const ON_COLUMNS: &str = "columns: ";
+
+/// Everything that a run must have reached at least once on tables of columns.
+const MUST_ON_COLUMNS: [&str; 72] = [
+    "fresh 0",
+    "fresh 1",
+    "write 0",
+    "write 1",
+    "write 3",
+    "write 5",
+    "write 6",
+    "session 0",
+    "session 1",
+    "session 2",
+    "session 3",
+    "session 4",
+    "session 5",
+    "session 6",
+    "purge 0",
+    "purge 1",
+    "purge 3",
+    "deliver 1",
+    "deliver 3",
+    "deliver 26",
+    "session accepted, outcome 0",
+    "session accepted, outcome 1",
+    "session accepted, outcome 2",
+    "session accepted, outcome 3",
+    "session carried 32 or more",
+    "session carried to both sides",
+    "session with 64 held, bringing none",
+    "session refused with 6, 63 held",
+    "session at 4294967295",
+    "session, the own column takes the partner's own",
+    "session, a third node's column is taken",
+    "session, the own column takes the partner's column for it",
+    "session, a cut side would have learnt",
+    "session, a column beyond n would rise",
+    "session, an entry beyond n would rise",
+    "write refused with 5 on a full log",
+    "write at 4294967295",
+    "purge of none",
+    "purge of some",
+    "purge of a full log to none",
+    "purge of none, another node lags",
+    "purge, the last node lags",
+    "purge, two nodes lag, the lower above 0",
+    "purge drops what is above the mark",
+    "purge keeps what is not above the mark",
+    "purge drops a record that an entry is just at",
+    "purge drops what is above the smallest entry of all",
+    "purge keeps what the own column covers",
+    "purge keeps what the last column alone does not cover",
+    "write into room that a purge freed",
+    "demand 3 looked at",
+    "count_node 0",
+    "count_node 1",
+    "count_node 3",
+    "a column's entry read",
+    "a column read that is none",
+    "apply_line 0",
+    "apply_line 1",
+    "apply_line 3",
+    "apply_line 4",
+    "apply_line 5",
+    "apply_line 6",
+    "apply_line 15",
+    "apply_line 26",
+    "apply_lines 0",
+    "apply_lines 1",
+    "apply_lines 12",
+    "apply_lines 14",
+    "apply_lines 15",
+    "apply_lines of none",
+    "apply_lines stopped after steps",
+    "apply_lines with steps refused",
+];
 
 /// Everything that a run must have reached at least once.
-const MUST: [&str; 137] = [
+const MUST: [&str; 139] = [
     "fresh 0",
     "fresh 1",
     "write 0",
@@ -49,6 +129,7 @@ const MUST: [&str; 137] = [
     "purge held back by the mark",
     "purge held back by the mark, node 0 does not lag",
     "demand 3 looked at",
+    "a column read of a table without columns",
     "deliver 0",
     "deliver 1",
     "deliver 3",
@@ -110,6 +191,7 @@ const MUST: [&str; 137] = [
     "frame deliver 17",
     "replay done",
     "replay nothing",
+    "replay nothing on columns",
     "replay 11",
     "replay 12",
     "replay 13",
@@ -150,11 +232,17 @@ const MUST: [&str; 137] = [
 ];
 
 impl Reached {
+    /// From now on it is a table of so many words that is looked at.
+    pub fn on(&mut self, words: usize) {
+        self.1 = if words == COLUMN_WORDS { ON_COLUMNS } else { "" };
+    }
+
     pub fn add(&mut self, what: &str) {
-        match self.0.get_mut(what) {
+        let name = if self.1.is_empty() { Cow::Borrowed(what) } else { Cow::Owned(format!("{}{what}", self.1)) };
+        match self.0.get_mut(name.as_ref()) {
             Some(many) => *many += 1,
             None => {
-                self.0.insert(what.into(), 1);
+                self.0.insert(name.into_owned(), 1);
             }
         }
     }
@@ -193,7 +281,7 @@ impl Reached {
 
     /// A delivery into a list of so many words, with its reply and the table before, where that was sound.
     pub fn delivery(&mut self, before: Option<&Table>, p: usize, said: [u32; 3], words: usize) {
-        self.numbered(&["deliver 0", "deliver 1", "", "deliver 3", "", "", "", "deliver 7"], said[0]);
+        self.add(&format!("deliver {}", said[0]));
         let Some(table) = before.filter(|t| p < t.n()) else { return };
         let (due, smallest, mark) = (table.due(p), table.smallest_entry(p), table.marks[p]);
         self.when(said[0] == 7 && words + 1 == RECORD * due.len(), "deliver refused with 7, one word short");
@@ -253,10 +341,11 @@ impl Reached {
     }
 
     /// Prints the table of what was reached; the answer is what never was.
-    pub fn report(&self) -> Vec<&'static str> {
+    pub fn report(&self) -> Vec<String> {
         for (what, many) in &self.0 {
             println!("  {many:>12}  {what}");
         }
-        MUST.into_iter().filter(|what| !self.0.contains_key(*what)).collect()
+        let must = MUST.into_iter().map(String::from).chain(MUST_ON_COLUMNS.into_iter().map(|what| format!("{ON_COLUMNS}{what}")));
+        must.filter(|what| !self.0.contains_key(what)).collect()
     }
 }

@@ -1,8 +1,8 @@
-//! Random clusters in many styles, run step by step on the model and on the library, compared word
+//! Random clusters in many styles and in both forms, run step by step on the model and on the library, compared word
 //! by word, with the account of demand 3 and the delivered lists beside them.
 
 use crate::account::Account;
-use crate::layout::{place, record_at, ACKNOWLEDGEMENTS, COUNTS, HELD, LIST, LOGS, MARKS, NODES, RECORD, ROOM, SUMMARIES, WORDS};
+use crate::layout::{column_at, place, record_at, ACKNOWLEDGEMENTS, COLUMN_WORDS, COUNTS, FURTHER, HELD, LIST, LOGS, MARKS, NODES, RECORD, ROOM, SUMMARIES, WORDS};
 use crate::library::{Calls, Library, BATCH};
 use crate::lines::COUNT_ANSWERS;
 use crate::model::{count, fresh, Action, Record, Table};
@@ -18,7 +18,7 @@ pub enum Event {
     Deliver { node: u8, words: u32 },
     Poke(u32, u32),
     CountNode(u8),
-    Look { node: u8, origin: u8, index: u32, word: u32 },
+    Look { node: u8, column: u8, origin: u8, index: u32, word: u32 },
 }
 
 /// A table's first words and what then happens to it.
@@ -46,18 +46,24 @@ pub enum Style {
 const STYLES: [Style; 11] =
     [Style::Gossip, Style::Full, Style::Lagging, Style::Largest, Style::Wild, Style::Edges, Style::Cut, Style::Drain, Style::Damaged, Style::Arbitrary, Style::WrongLength];
 
-/// Makes the scenario of a seed. Its events aim at the model's own table, which runs along.
+/// Makes the scenario of a seed, of vectors or of columns. Its events aim at the model's own table, which runs along.
 pub fn make(seed: u64) -> Scenario {
     let mut rng = Random::new(seed);
+    let length = if rng.percent(45) { COLUMN_WORDS } else { WORDS };
+    make_of(rng, length)
+}
+
+/// A scenario on a table of so many words; the style that has a wrong length goes by itself.
+fn make_of(mut rng: Random, length: usize) -> Scenario {
     let style = match rng.below(40) {
-        0 => Style::WrongLength,
-        1..=2 => Style::Wild,
-        3..=5 => Style::Damaged,
+        0 | 1 => Style::WrongLength,
+        2 | 3 => Style::Wild,
+        4..=6 => Style::Damaged,
         _ => rng.among(&STYLES[..10]),
     };
     let n = 2 + rng.below(15);
     let n = if rng.percent(40) || style == Style::Drain { n.min(4) } else { n };
-    let words = first_words(&mut rng, style, n);
+    let words = first_words(&mut rng, style, length, n);
     let mut table = Table::from_words(&words);
     let mut maker = Maker { clocks: (0..NODES).map(|_| rng.below(40)).collect(), mended: None, turn: 0, style, rng };
     let mut events = Vec::new();
@@ -75,34 +81,65 @@ pub fn make(seed: u64) -> Scenario {
         }
         let event = match &table {
             Some(table) => maker.event(table),
-            None => maker.event(&fresh(WORDS, n).unwrap()),
+            None => maker.event(&fresh(length, n).unwrap()),
         };
         events.push(event);
     }
     Scenario { words, events }
 }
 
+/// The lengths that no table has, near those that one has and others.
+pub const WRONG_LENGTHS: [usize; 11] = [0, 1, LOGS, MARKS, WORDS - 1, WORDS + 1, LOGS + FURTHER, MARKS + FURTHER, COLUMN_WORDS - 1, COLUMN_WORDS + 1, WORDS + COLUMN_WORDS - 4096];
+
+/// How much further than in a table of vectors stands what stands behind the rows.
+fn further(words: usize) -> usize {
+    if words == COLUMN_WORDS {
+        FURTHER
+    } else {
+        0
+    }
+}
+
 /// The words that a scenario starts from: rubbish for a fresh table to be made in, an arbitrary
 /// sound table, or a wrong length.
-fn first_words(rng: &mut Random, style: Style, n: u32) -> Vec<u32> {
-    let length = if style == Style::WrongLength { rng.among(&[0, 1, LOGS, WORDS - 1, WORDS + 1, 8000]) } else { WORDS };
-    let small = rng.percent(50);
-    let mut words: Vec<u32> = (0..length).map(|_| if small { rng.below(12) } else { rng.word() }).collect();
+fn first_words(rng: &mut Random, style: Style, length: usize, n: u32) -> Vec<u32> {
+    let length = if style == Style::WrongLength { rng.among(&WRONG_LENGTHS) } else { length };
+    // of a wrong length most are such that nothing but the length is wrong
+    let small = rng.percent(if style == Style::WrongLength { 90 } else { 50 });
+    let bound = if style == Style::WrongLength { 2 } else { 12 };
+    let mut words: Vec<u32> = (0..length).map(|_| if small { rng.below(bound) } else { rng.word() }).collect();
     if length > 0 && style != Style::Arbitrary {
         words[0] = n;
     }
     if style == Style::Arbitrary {
         words[0] = n;
+        let behind = further(length);
         for p in 0..NODES {
             let (held, takes_part) = (if rng.percent(20) { MOST } else { rng.below(MOST + 1) }, p < n as usize);
-            words[HELD + p] = if takes_part || rng.percent(50) { held } else { rng.word() };
+            words[behind + HELD + p] = if takes_part || rng.percent(50) { held } else { rng.word() };
             for row in (0..held as usize).filter(|_| takes_part) {
-                words[record_at(p, row, 0)] = rng.below(n);
-                words[record_at(p, row, 3)] = rng.below(256);
+                words[behind + record_at(p, row, 0)] = rng.below(n);
+                words[behind + record_at(p, row, 3)] = rng.below(256);
             }
+        }
+        if length == COLUMN_WORDS && rng.percent(60) {
+            know(rng, &mut words, n as usize);
         }
     }
     words
+}
+
+/// Gives the nodes of an arbitrary table columns by which records leave: the entries lie a little around the timestamps of the records that are held.
+fn know(rng: &mut Random, words: &mut [u32], n: usize) {
+    for p in 0..n {
+        for o in 0..n {
+            let row = rng.below(MOST) as usize;
+            let about = words[FURTHER + record_at(p, row, 1)];
+            for q in 0..n {
+                words[column_at(p, q, o)] = about.saturating_add(rng.below(3)).saturating_sub(u32::from(rng.percent(20)));
+            }
+        }
+    }
 }
 
 /// The maker of events: a style, a clock for each node, the word that damage is to be mended to, and
@@ -140,12 +177,12 @@ impl Maker {
         match self.rng.below(100) {
             97 => Event::CountNode(self.node(n)),
             95 | 96 if self.style == Style::Damaged => Event::CountNode(self.node(n)),
-            98 => Event::Look { node: self.node(n), origin: self.node(n), index: self.rng.below(70), word: self.rng.below(6) },
+            98 => Event::Look { node: self.node(n), column: self.node(n), origin: self.node(n), index: self.rng.below(70), word: self.rng.below(6) },
             99 if self.rng.percent(10) => Event::Fresh(self.rng.below(20)),
             99 if self.rng.percent(3) => Event::Fresh(self.rng.word()),
             k if k < writes => Event::Step(self.write(t, n)),
             k if k < writes + sessions => Event::Step(self.session(t, n)),
-            k if k % 2 == 0 => self.delivery(t, n),
+            k if k % 2 == 0 && (!t.has_columns() || self.rng.percent(15)) => self.delivery(t, n),
             _ => Event::Step(Action::Purge { node: self.node(n) }),
         }
     }
@@ -230,7 +267,7 @@ impl Maker {
 
     fn own(&self, t: &Table, node: u8) -> u32 {
         let p = usize::from(node) % NODES;
-        t.summaries[p][p]
+        t.summary(p)[p]
     }
 
     fn write(&mut self, t: &Table, n: u32) -> Action {
@@ -258,26 +295,28 @@ impl Maker {
     /// A word to spoil, chosen among those that matter, and the value that mends it.
     fn damage(&mut self, t: &Table) -> Event {
         let p = self.rng.below(NODES as u32) as usize;
-        let entry = (NODES * NODES) as u32;
+        let behind = further(t.length());
+        let entries = (behind + HELD - SUMMARIES) as u32;
         let index = match self.rng.below(8) {
             0 => 0,
-            7 => MARKS + p,
-            1 | 2 => HELD + p,
-            3 => SUMMARIES + self.rng.below(entry) as usize,
-            4 => ACKNOWLEDGEMENTS + self.rng.below(entry) as usize,
-            5 => record_at(p, self.rng.below(8) as usize, self.rng.among(&[0, 3])),
-            _ => record_at(p, t.held[p].wrapping_sub(1).min(MOST - 1) as usize, self.rng.among(&[0, 0, 1, 3, 3])),
+            7 => behind + MARKS + p,
+            1 | 2 => behind + HELD + p,
+            3 => SUMMARIES + self.rng.below(entries) as usize,
+            4 if t.has_columns() => column_at(p, self.rng.below(NODES as u32) as usize, self.rng.below(NODES as u32) as usize),
+            4 => ACKNOWLEDGEMENTS + self.rng.below((NODES * NODES) as u32) as usize,
+            5 => behind + record_at(p, self.rng.below(8) as usize, self.rng.among(&[0, 3])),
+            _ => behind + record_at(p, t.held[p].wrapping_sub(1).min(MOST - 1) as usize, self.rng.among(&[0, 0, 1, 3, 3])),
         };
         let mut words = Vec::new();
         t.to_words(&mut words);
         let old = words[index];
         self.mended = Some((index as u32, old));
         let (low, high) = (self.rng.below(18), self.rng.word());
-        let least_wrong = match index {
-            0 => self.rng.among(&[0, 1, NODES as u32 + 1]),
-            HELD..LOGS => MOST + 1,
-            LOGS..MARKS if (index - LOGS) % RECORD == 0 => t.count,
-            LOGS..MARKS => 256,
+        let least_wrong = match index.checked_sub(behind) {
+            _ if index == 0 => self.rng.among(&[0, 1, NODES as u32 + 1]),
+            Some(HELD..LOGS) => MOST + 1,
+            Some(word @ LOGS..MARKS) if (word - LOGS) % RECORD == 0 => t.count,
+            Some(LOGS..MARKS) => 256,
             _ => u32::MAX,
         };
         Event::Poke(index as u32, self.rng.among(&[least_wrong, least_wrong, least_wrong, 0, 1, 2, 16, 64, 255, low, high, u32::MAX, old.wrapping_add(1), old.wrapping_sub(1)]))
@@ -288,7 +327,7 @@ impl Maker {
 fn apply(table: &mut Table, event: Event) -> Option<[u32; 3]> {
     const NONE: u32 = u32::MAX;
     match event {
-        Event::Fresh(n) => Some(match fresh(WORDS, n) {
+        Event::Fresh(n) => Some(match fresh(table.length(), n) {
             Ok(made) => {
                 *table = made;
                 [0, NONE, NONE]
@@ -339,10 +378,13 @@ fn counted(table: Option<&Table>, node: u8) -> [u32; COUNT_ANSWERS] {
     [0, scrubbed, touched, gap, 1]
 }
 
-fn looked(table: Option<&Table>, node: u8, origin: u8, index: u32, word: u32) -> [u32; 5] {
-    let Some(t) = table.filter(|t| t.sound() && u32::from(node) < t.count) else { return [0; 5] };
-    let (p, o) = (usize::from(node), usize::from(origin));
-    let entry = |row: &[u32]| if o < t.n() { row[o] } else { 0 };
+/// The answers to a look: summary, acknowledgement, column, held number, mark, record.
+const LOOK_ANSWERS: usize = 6;
+
+fn looked(table: Option<&Table>, node: u8, column: u8, origin: u8, index: u32, word: u32) -> [u32; LOOK_ANSWERS] {
+    let Some(t) = table.filter(|t| t.sound() && u32::from(node) < t.count) else { return [0; LOOK_ANSWERS] };
+    let (p, q, o) = (usize::from(node), usize::from(column), usize::from(origin));
+    let entry = |row: Option<&Vec<u32>>| row.filter(|_| o < t.n()).map_or(0, |row| row[o]);
     let record = t.log(p).get(index as usize).map_or(0, |r| match word {
         0 => r.origin,
         1 => r.timestamp,
@@ -350,7 +392,8 @@ fn looked(table: Option<&Table>, node: u8, origin: u8, index: u32, word: u32) ->
         3 => r.verdict,
         _ => 0,
     });
-    [entry(&t.summaries[p]), entry(&t.acknowledgements[p]), t.held[p], t.marks[p], record]
+    let of_q = t.columns.get(p).filter(|_| q < t.n()).and_then(|columns| columns.get(q));
+    [if o < t.n() { t.summary(p)[o] } else { 0 }, entry(t.acknowledgements.get(p)), entry(of_q), t.held[p], t.marks[p], record]
 }
 
 /// One run of a scenario on both sides.
@@ -368,6 +411,7 @@ impl Run<'_> {
     fn event(&mut self, event: Event, answers: &mut crate::library::Answers) -> Result<(), String> {
         let before_held = self.situation(event);
         self.held_back(event);
+        self.learning(event);
         match event {
             Event::Fresh(_) | Event::Step(_) => {
                 let said = match &mut self.table {
@@ -402,19 +446,24 @@ impl Run<'_> {
                 }
                 same("the count", answers.words(COUNT_ANSWERS), &said)?;
             }
-            Event::Look { node, origin, index, word } => {
-                let said = looked(self.table.as_ref(), node, origin, index, word);
-                same("summary, acknowledgement, held, mark, record", answers.words(5), &said)?;
+            Event::Look { node, column, origin, index, word } => {
+                let said = looked(self.table.as_ref(), node, column, origin, index, word);
+                let there = |p: u8| self.table.as_ref().is_some_and(|t| t.sound() && u32::from(p) < t.count);
+                let columns = self.table.as_ref().is_some_and(Table::has_columns);
+                self.reached.when(columns && there(node) && there(column) && there(origin), "a column's entry read");
+                self.reached.when(columns && there(node) && !there(column), "a column read that is none");
+                self.reached.when(!columns && there(node) && there(column) && there(origin), "a column read of a table without columns");
+                same("summary, acknowledgement, column, held, mark, record", answers.words(LOOK_ANSWERS), &said)?;
                 words(answers.words(self.expected.len()), &self.expected)?;
             }
         }
         Ok(())
     }
 
-    /// Notes where the node that a purge tells stands: it is the last, or another has the same entry. A purge changes no acknowledgement.
+    /// Notes where the node that a purge tells stands: it is the last, or another has the same entry. A purge changes no acknowledgement and no column.
     fn lag(&mut self, event: Event, said: [u32; 3]) {
         let (Some(table), Event::Step(Action::Purge { node })) = (&self.table, event) else { return };
-        let entries = &table.acknowledgements[usize::from(node)][..table.n()];
+        let entries = table.lows(usize::from(node));
         let lags = said[2] as usize;
         self.reached.when(lags + 1 == entries.len(), "purge, the last node lags");
         self.reached.when(lags > 0 && entries[lags + 1..].contains(&entries[lags]), "purge, two nodes lag, the lower above 0");
@@ -435,7 +484,7 @@ impl Run<'_> {
             table.to_words(&mut self.expected);
         }
         words(answers.words(self.expected.len()), &self.expected)?;
-        self.reached.delivery(before.as_ref().filter(|t| t.sound()), p, said, many as usize);
+        self.reached.delivery(before.as_ref().filter(|t| t.sound() && !t.has_columns()), p, said, many as usize);
         if let (0, Some(account), Some(table)) = (said[0], &mut self.account, &self.table) {
             let records: Vec<Record> = list.chunks(RECORD).take(said[1] as usize).map(|w| Record { origin: w[0], timestamp: w[1], block: w[2], verdict: w[3] }).collect();
             account.delivered(p, &records);
@@ -457,18 +506,51 @@ impl Run<'_> {
         }
     }
 
-    /// What keeps the records of a node that is purged: its mark alone, or its acknowledgements alone.
+    /// What keeps the records of a node that is purged: its mark alone, or its acknowledgements alone. Of columns what one that goes by another rule would do.
     fn held_back(&mut self, event: Event) {
         let (Event::Step(Action::Purge { node }), Some(t)) = (event, &self.table) else { return };
         let p = usize::from(node);
         if !t.sound() || p >= t.n() {
             return;
         }
-        let (smallest, mark) = (*t.acknowledgements[p][..t.n()].iter().min().unwrap(), t.marks[p]);
+        let (smallest, mark) = (*t.lows(p).iter().min().unwrap(), t.marks[p]);
+        if t.has_columns() {
+            let entries = |r: &Record| t.columns[p][..t.n()].iter().map(|column| column[r.origin as usize]).collect::<Vec<u32>>();
+            let any = |test: &dyn Fn(&Record) -> bool| t.log(p).iter().any(test);
+            self.reached.when(any(&|r| t.goes(p, r) && r.timestamp > mark), "purge drops what is above the mark");
+            self.reached.when(any(&|r| !t.goes(p, r) && r.timestamp <= mark), "purge keeps what is not above the mark");
+            self.reached.when(any(&|r| t.goes(p, r) && entries(r).contains(&r.timestamp)), "purge drops a record that an entry is just at");
+            self.reached.when(any(&|r| t.goes(p, r) && r.timestamp > smallest), "purge drops what is above the smallest entry of all");
+            self.reached.when(any(&|r| !t.goes(p, r) && t.columns[p][p][r.origin as usize] >= r.timestamp), "purge keeps what the own column covers");
+            self.reached.when(any(&|r| !t.goes(p, r) && entries(r)[..t.n() - 1].iter().all(|&e| e >= r.timestamp)), "purge keeps what the last column alone does not cover");
+            return;
+        }
         let any = |low: u32, high: u32| t.log(p).iter().any(|r| low < r.timestamp && r.timestamp <= high);
         self.reached.when(any(mark, smallest), "purge held back by the mark");
         self.reached.when(any(mark, smallest) && t.acknowledgements[p][0] > smallest, "purge held back by the mark, node 0 does not lag");
         self.reached.when(any(smallest, mark), "purge leaves what is delivered and not acknowledged");
+    }
+
+    /// Of a session of columns that is accepted: where what a side takes comes from, and what a side that is cut leaves.
+    fn learning(&mut self, event: Event) {
+        let (Event::Step(Action::Session { a, b, ca, cb, outcome }), Some(t)) = (event, &self.table) else { return };
+        if !t.has_columns() || t.clone().apply(Action::Session { a, b, ca, cb, outcome }).refusal != 0 {
+            return;
+        }
+        let n = t.n();
+        let more = |x: &[u32], y: &[u32]| x[..n].iter().zip(&y[..n]).any(|(x, y)| x > y);
+        let mut seen = Vec::new();
+        for (p, q, finishes) in [(usize::from(a), usize::from(b), outcome & 1 != 0), (usize::from(b), usize::from(a), outcome & 2 != 0)] {
+            let (own, other) = (&t.columns[p], &t.columns[q]);
+            let rises = (0..n).any(|r| more(&other[r], &own[r]));
+            seen.push((finishes && more(&other[q], &own[p]), "session, the own column takes the partner's own"));
+            seen.push((finishes && (0..n).any(|r| r != p && r != q && more(&other[r], &own[r])), "session, a third node's column is taken"));
+            seen.push((finishes && more(&other[p], &own[p]), "session, the own column takes the partner's column for it"));
+            seen.push((!finishes && rises, "session, a cut side would have learnt"));
+            seen.push((finishes && n < NODES && (n..NODES).any(|r| other[r][0] > own[r][0]), "session, a column beyond n would rise"));
+            seen.push((finishes && n < NODES && other[0][n] > own[0][n], "session, an entry beyond n would rise"));
+        }
+        seen.into_iter().for_each(|(it_is, what)| self.reached.when(it_is, what));
     }
 
     /// What the nodes of a step held before it, for the situations that must be reached.
@@ -530,11 +612,12 @@ fn words(is: &[u32], should: &[u32]) -> Result<(), String> {
         return Ok(());
     }
     let at = (0..should.len()).find(|&i| is[i] != should[i]).unwrap();
-    Err(format!("word {at} of the table ({}): the library has {}, the documents {}", place(at), is[at], should[at]))
+    Err(format!("word {at} of the table ({}): the library has {}, the documents {}", place(should.len(), at), is[at], should[at]))
 }
 
 /// Runs a scenario on the model and the library; the answer is the event that differs and how.
 pub fn compare(library: &mut Library, scenario: &Scenario, reached: &mut Reached) -> Result<(), (usize, String)> {
+    reached.on(scenario.words.len());
     let mut run = Run { table: Table::from_words(&scenario.words), expected: scenario.words.clone(), account: None, freed: [false; 256], reached };
     let mut calls = Calls::default();
     calls.table(&scenario.words);
@@ -546,7 +629,7 @@ pub fn compare(library: &mut Library, scenario: &Scenario, reached: &mut Reached
                 Event::Deliver { node, words } => calls.deliver(node, &lent(words)),
                 Event::Poke(index, value) => calls.poke(index, value),
                 Event::CountNode(node) => calls.count_node(node),
-                Event::Look { node, origin, index, word } => calls.look(node, origin, index, word),
+                Event::Look { node, column, origin, index, word } => calls.look(node, column, origin, index, word),
             }
         }
         let Some(mut answers) = library.run(&calls) else { return Err((batch * BATCH, "the library was killed".into())) };
@@ -575,16 +658,17 @@ pub fn seed(library: &mut Library, seed: u64, reached: &mut Reached) -> Result<u
     let last = Scenario { words: scenario.words.clone(), events: events.clone() };
     let fault = compare(library, &last, &mut nowhere).unwrap_err().1;
     let mut text = format!("seed {seed}: {fault}\nthe shortest failing list, of {} events:\n", scenario.events.len());
-    if !matches!(events[0], Event::Fresh(_)) {
+    if scenario.words.len() == COLUMN_WORDS || !matches!(events[0], Event::Fresh(_)) {
         text += &format!("  (on the table of {} words that this seed starts from, count {})\n", scenario.words.len(), scenario.words.first().unwrap_or(&0));
     }
-    events.iter().for_each(|event| text += &format!("  {}\n", written(*event)));
+    events.iter().for_each(|event| text += &format!("  {}\n", written(scenario.words.len(), *event)));
     Err(text)
 }
 
 /// Events that are simpler than this one.
 fn smaller(event: &Event) -> Vec<Event> {
-    let less = |x: u32| [0, 1, x / 2, x.saturating_sub(1)].into_iter().filter(move |&y| y < x);
+    // less by each power of two, the greatest first: a number comes down to any bound in 32 turns
+    let less = |x: u32| [0, 1].into_iter().chain((0..32).rev().filter_map(move |k| x.checked_sub(1 << k))).filter(move |&y| y < x);
     match *event {
         Event::Fresh(n) => less(n).map(Event::Fresh).collect(),
         Event::Step(Action::Write { node, timestamp, block, verdict }) => {
@@ -602,7 +686,7 @@ fn smaller(event: &Event) -> Vec<Event> {
     }
 }
 
-fn written(event: Event) -> String {
+fn written(words: usize, event: Event) -> String {
     match event {
         Event::Fresh(n) => format!("fresh {n}"),
         Event::Step(Action::Write { node, timestamp, block, verdict }) => format!("write node {node} timestamp {timestamp} block {block} verdict {verdict}"),
@@ -610,15 +694,15 @@ fn written(event: Event) -> String {
         Event::Step(Action::Purge { node }) => format!("purge node {node}"),
         Event::Step(Action::Deliver { node }) => format!("delivery of node {node}"),
         Event::Deliver { node, words } => format!("delivery of node {node} into {words} words"),
-        Event::Poke(index, value) => format!("word {index} ({}) set to {value}", place(index as usize)),
+        Event::Poke(index, value) => format!("word {index} ({}) set to {value}", place(words, index as usize)),
         Event::CountNode(node) => format!("count of node {node}"),
-        Event::Look { node, origin, index, word } => format!("look at node {node}, entry {origin}, record {index}, word {word}"),
+        Event::Look { node, column, origin, index, word } => format!("look at node {node}, column {column}, entry {origin}, record {index}, word {word}"),
     }
 }
 
-/// The steps of a seed's scenario that came after a making of a fresh table, with its count: for journals.
+/// The steps of a seed's scenario of vectors that came after a making of a fresh table, with its count: for journals.
 pub fn steps_of(seed: u64) -> (u32, Vec<Action>) {
-    let scenario = make(seed);
+    let scenario = make_of(Random::new(seed), WORDS);
     let n = match scenario.events[0] {
         Event::Fresh(n) => n,
         _ => scenario.words.first().copied().unwrap_or(2).clamp(*COUNTS.start(), *COUNTS.end()),

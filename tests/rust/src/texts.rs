@@ -2,7 +2,6 @@
 //! run by both calls that take lines, with every number, count and place and every word compared.
 
 use crate::journals::damage;
-use crate::layout::WORDS;
 use crate::library::{Answers, Calls, Library, BATCH};
 use crate::lines;
 use crate::model::{apply_line, apply_lines, fresh, line_of, start_frame, Action, Table};
@@ -127,6 +126,7 @@ fn event(event: &Event, table: &mut Option<Table>, expected: &mut Vec<u32>, answ
 fn compare(library: &mut Library, words: &[u32], events: &[Event], reached: &mut Reached) -> Result<usize, (usize, String)> {
     let (mut table, mut expected, mut done) = (Table::from_words(words), words.to_vec(), 0);
     let mut calls = Calls::default();
+    reached.on(words.len());
     calls.table(words);
     for (batch, part) in events.chunks(BATCH).enumerate() {
         for event in part {
@@ -157,7 +157,7 @@ pub fn seed(library: &mut Library, seed: u64, reached: &mut Reached) -> Result<u
     let mut nowhere = Reached::default();
     let events = shortest(&events[..=at.min(events.len() - 1)], &mut |events| compare(library, &words, events, &mut nowhere).is_err(), &|_| Vec::new());
     let fault = compare(library, &words, &events, &mut nowhere).unwrap_err().1;
-    let mut text = format!("seed {seed}: {fault}\nthe shortest failing list, on {} words (of {WORDS}):\n", words.len());
+    let mut text = format!("seed {seed}: {fault}\nthe shortest failing list, on {} words:\n", words.len());
     for event in &events {
         text += &match event {
             Event::Fresh(n) => format!("  fresh {n}\n"),

@@ -6,13 +6,14 @@ use native.Mathlib.Omega.{arith}
 use lib.ListN.{length, take, drop}
 use Rattle.meaning.specs.declared.Record.{Record}
 use Rattle.meaning.specs.Rows.{due, inOrder, records, words}
-use Rattle.meaning.specs.Table.{count, held, logAt, node, place, Sound}
+use Rattle.meaning.specs.Table.{formOf, count, held, logAt, node, place, Sound}
 use Rattle.deliveries.proofs.LentLaws.{log-fits, due-is, due-few}
 use borrow.Author.Needs.{needs}
 use Rattle.deliveries.proofs.fill.Statement.{statement}
 use Rattle.deliveries.proofs.fill.Tie as tie
 
-module _ (t : List ℕ) (s : Sound t) (p : ℕ) (h : p < count t) (at k : ℕ) (ea : at ≡ logAt p) (ek : k ≡ held t p) (mark limit : ℕ) (list : List ℕ) where
+module _ (t : List ℕ) (s : Sound t) (p : ℕ) (h : p < count t) (at k : ℕ) (ea : at ≡ logAt (formOf t) p) (ek : k ≡ held t p) (mark limit : ℕ)
+    (list : List ℕ) where
   abbrev lent : List Record
   lent = due mark limit (records k (take ((at + 256) - at) (drop at t)))
 

@@ -8,7 +8,7 @@ use borrow.Author.Tests.{le-ltb}
 use lib.ListN.{length}
 use lib.Dec.{ltb}
 use Rattle.meaning.specs.Rows.{due}
-use Rattle.meaning.specs.Table.{count, held, logAt, node, Sound}
+use Rattle.meaning.specs.Table.{formOf, count, held, logAt, node, Sound}
 use Rattle.deliveries.proofs.LentLaws.{due-few}
 use borrow.Author.Needs.{needs}
 use Rattle.deliveries.proofs.lacks.Statement.{statement}
@@ -18,7 +18,7 @@ roomy :
     (t : List ℕ) → Sound t → (p : ℕ) → p < count t → (k : ℕ) → k ≡ held t p → (mark limit room : ℕ) → 4 * k ≤ room →
     false ≡ ltb room (4 * length (due mark limit (node t p .log)))
 roomy t s p h k ek mark limit room g =
-    let a = due-few t s p h (logAt p) k refl ek mark limit in
+    let a = due-few t s p h (logAt (formOf t) p) k refl ek mark limit in
     sym (le-ltb room (4 * length (due mark limit (node t p .log))) (omega arith))
 
 mul-if1 : tie.Need-mul-if1

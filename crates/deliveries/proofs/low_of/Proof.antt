@@ -6,13 +6,13 @@ use mathlib.Core.List.{List}
 use lib.ListN.{take, drop, getD, set}
 use lib.Seq.{set-getD}
 use Rattle.meaning.specs.Rows.{least}
-use Rattle.meaning.specs.Table.{count, node, part, summaryAt, Sound}
+use Rattle.meaning.specs.Table.{formOf, count, node, part, summaryAt, Sound}
 use Rattle.meaning.proofs.PlaceLaws.{part-lent, inside-lent, getD-part}
 use borrow.Author.Needs.{needs}
 use Rattle.deliveries.proofs.low_of.Statement.{statement}
 use Rattle.deliveries.proofs.low_of.Tie as tie
 
-lent : (t : List ℕ) (p at n : ℕ) → at ≡ summaryAt p → n ≡ count t → take ((at + n) - at) (drop at t) ≡ node t p .summary
+lent : (t : List ℕ) (p at n : ℕ) → at ≡ summaryAt (formOf t) p → n ≡ count t → take ((at + n) - at) (drop at t) ≡ node t p .summary
 unfolding node
 lent t p at n e f = part-lent at n t ∙ ap₂ (λ (a m : ℕ). part a m t) e f
 
@@ -58,7 +58,7 @@ least-with-requires c κs =
     let b = s .high in
     let f = start .pre .2 in
     let h = start .pre .1 in
-    let e = at-summary-at .summary-at .ensures in
+    let e = at-summary-at .summary-at .ensures .0 in
     inside-lent (at-summary-at .summary-at .result) _ (start .args .t .now) 0 (omega arith) (omega arith)
 
 returns : tie.Need-returns
@@ -70,7 +70,7 @@ returns c =
     let f = start .pre .2 in
     c .least-with .ensures .0 ∙ ap least
     (own (start .args .t .now) (at-summary-at .summary-at .result) (start .args .n) (omega arith) ∙
-    lent (start .args .t .now) (start .args .p) (at-summary-at .summary-at .result) (start .args .n) (at-summary-at .summary-at .ensures) (start .pre .2))
+    lent (start .args .t .now) (start .args .p) (at-summary-at .summary-at .result) (start .args .n) (at-summary-at .summary-at .ensures .0) (start .pre .2))
 
 pub low-of-spec : {M : Type 1} → statement M
 low-of-spec =

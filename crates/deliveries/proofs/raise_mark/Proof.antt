@@ -4,7 +4,7 @@ use mathlib.Core.List.{List, [], _∷_}
 use Prim.Native.Nat.{ℕ, _≤_, _<_}
 use native.Mathlib.Omega.{arith}
 use Rattle.meaning.specs.Rows.{least}
-use Rattle.meaning.specs.Table.{markAt, count, mark, node, place, putMark, Sound}
+use Rattle.meaning.specs.Table.{formOf, markAt, count, mark, node, place, putMark, Sound}
 use Rattle.meaning.specs.Node.{raised}
 use Rattle.meaning.proofs.PutLaws.{put-mark-same}
 use borrow.Author.Needs.{needs}
@@ -12,7 +12,7 @@ use Rattle.deliveries.proofs.raise_mark.Statement.{statement}
 use Rattle.deliveries.proofs.raise_mark.Tie as tie
 
 module _ (t : List ℕ) (p m low : ℕ) (el : low ≡ least (node t p .summary)) where
-  put : m < low → (at : ℕ) (u : List ℕ) → at ≡ markAt p → u ≡ place at (low ∷ []) t → u ≡ putMark p (raised m (node t p)) t
+  put : m < low → (at : ℕ) (u : List ℕ) → at ≡ markAt (formOf t) p → u ≡ place at (low ∷ []) t → u ≡ putMark p (raised m (node t p)) t
   unfolding putMark raised
   put g at u ea eu =
       let e : low ≡ raised m (node t p) = omega arith in
@@ -37,7 +37,7 @@ same-length c = search needs
 returns : tie.Need-returns
 returns c =
     let at-put-word = c .before .before in
-    let at-mark-at = at-put-word .before in
+    let at-mark-at = at-put-word .before .before in
     let at-if1 = at-mark-at .before .before in
     let start = at-if1 .before .before in
     put (start .args .t .now) (start .args .p) (start .args .mark) (start .args .limit) (start .pre .3) (at-if1 .if1 .taken)

@@ -6,11 +6,8 @@ use Rattle.input.specs.Reading.{Within}
 use Rattle.edges.proofs.serve.Statement.{statement}
 use Rattle.edges.proofs.serve.Tie as tie
 
-slice-aggregate-t : tie.Need-slice-aggregate-t
-slice-aggregate-t c = search needs
-
-making-requires : tie.Need-making-requires
-making-requires c κs = search needs
+wrong-lengths-requires : tie.Need-wrong-lengths-requires
+wrong-lengths-requires c κs = search needs
 
 read-all-requires : tie.Need-read-all-requires
 read-all-requires c κs = search needs
@@ -18,22 +15,22 @@ read-all-requires c κs = search needs
 enum-known-input : tie.Need-enum-known-input
 enum-known-input c = search needs
 
-sub-all : tie.Need-sub-all
-sub-all c = search needs
+sub-tried : tie.Need-sub-tried
+sub-tried c = search needs
 
-part-all-start : tie.Need-part-all-start
-part-all-start c = search needs
+part-tried-start : tie.Need-part-tried-start
+part-tried-start c = search needs
 
-part-all-end : tie.Need-part-all-end
-part-all-end c =
+part-tried-end : tie.Need-part-tried-end
+part-tried-end c =
     let at-input = c .before .before in
     let at-read = at-input .before .before .before .before in
     let r = at-read .read-all .ensures in
     let within = subst (Within _) (at-input .input .given .1) (r .1) in
     omega (arith, r .0)
 
-all-requires : tie.Need-all-requires
-all-requires c κs = search needs
+tried-requires : tie.Need-tried-requires
+tried-requires c κs = search needs
 
 slice-aggregate-field : tie.Need-slice-aggregate-field
 slice-aggregate-field c = search needs
@@ -57,14 +54,13 @@ pub serve-spec : {M : Type 1} → statement M
 serve-spec =
     tie.close
     (tie.spec
-    slice-aggregate-t
-    making-requires
+    wrong-lengths-requires
     read-all-requires
     enum-known-input
-    sub-all
-    part-all-start
-    part-all-end
-    all-requires
+    sub-tried
+    part-tried-start
+    part-tried-end
+    tried-requires
     slice-aggregate-field
     field-requires
     same-length

@@ -12,10 +12,18 @@ returns : tie.Need-returns
 returns c = no-mark _ _ (absent _ _ (c .before .is-present .result) (c .before .is-present .ensures) (c .if1 .taken))
 
 mark-at-requires : tie.Need-mark-at-requires
-mark-at-requires c κs = below _ _ (there _ _ (c .before .is-present .result) (c .before .is-present .ensures) (c .if1 .left))
+mark-at-requires c κs =
+    let h = there _ _ (c .before .is-present .result) (c .before .is-present .ensures) (c .if1 .left) in
+    (is-sound _ _ h .long, omega (arith, below _ _ h))
 
 mul-result : tie.Need-mul-result
-mul-result c = search needs
+mul-result c =
+    let at-if1 = c .before in
+    let at-present = at-if1 .before in
+    let h = there _ _ (at-present .is-present .result) (at-present .is-present .ensures) (at-if1 .if1 .left) in
+    let l = is-sound _ _ h .long in
+    let b = below _ _ h in
+    search needs
 
 shared-slice-read-result : tie.Need-shared-slice-read-result
 shared-slice-read-result c =

@@ -34,19 +34,38 @@ log-at-requires : tie.Need-log-at-requires
 log-at-requires c κs =
     let at-if1 = c .before .before .before in
     let at-present = at-if1 .before in
-    below _ _ (there _ _ (at-present .is-present .result) (at-present .is-present .ensures) (at-if1 .if1 .left))
+    let h = there _ _ (at-present .is-present .result) (at-present .is-present .ensures) (at-if1 .if1 .left) in
+    (is-sound _ _ h .long, omega (arith, below _ _ h))
 
 mul-result : tie.Need-mul-result
 mul-result c = search needs
 
 add-result : tie.Need-add-result
-add-result c = search needs
+add-result c =
+    let at-if1 = c .before .before .before .before in
+    let at-present = at-if1 .before in
+    let h = there _ _ (at-present .is-present .result) (at-present .is-present .ensures) (at-if1 .if1 .left) in
+    let l = is-sound _ _ h .long in
+    let b = below _ _ h in
+    search needs
 
 add-result-2 : tie.Need-add-result-2
-add-result-2 c = search needs
+add-result-2 c =
+    let at-if1 = c .before .before .before .before in
+    let at-present = at-if1 .before in
+    let h = there _ _ (at-present .is-present .result) (at-present .is-present .ensures) (at-if1 .if1 .left) in
+    let l = is-sound _ _ h .long in
+    let b = below _ _ h in
+    search needs
 
 mul-result-2 : tie.Need-mul-result-2
-mul-result-2 c = search needs
+mul-result-2 c =
+    let at-if1 = c .before .before .before .before in
+    let at-present = at-if1 .before in
+    let h = there _ _ (at-present .is-present .result) (at-present .is-present .ensures) (at-if1 .if1 .left) in
+    let l = is-sound _ _ h .long in
+    let b = below _ _ h in
+    search needs
 
 shared-slice-read-result : tie.Need-shared-slice-read-result
 shared-slice-read-result c =

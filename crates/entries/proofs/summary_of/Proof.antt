@@ -12,19 +12,21 @@ returns : tie.Need-returns
 returns c = no-summary _ _ _ (absent _ _ (c .before .is-present .result) (c .before .is-present .ensures) (c .if1 .taken))
 
 summary-at-requires : tie.Need-summary-at-requires
-summary-at-requires c κs = below _ _ (there _ _ (c .before .is-present .result) (c .before .is-present .ensures) (c .if1 .left))
+summary-at-requires c κs =
+    let h = there _ _ (c .before .is-present .result) (c .before .is-present .ensures) (c .if1 .left) in
+    (is-sound _ _ h .long, omega (arith, below _ _ h))
 
 entry-requires : tie.Need-entry-requires
 entry-requires c κs =
     let h = there _ _ (c .before .before .is-present .result) (c .before .before .is-present .ensures) (c .before .if1 .left) in
-    (is-sound _ _ h, omega (arith, below _ _ h, c .summary-at .ensures))
+    (is-sound _ _ h, c .summary-at .ensures .1)
 
 returns-2 : tie.Need-returns-2
 returns-2 c =
     let at-if1 = c .before .before in
     let at-present = at-if1 .before in
     let h = there _ _ (at-present .is-present .result) (at-present .is-present .ensures) (at-if1 .if1 .left) in
-    summary-is _ _ _ _ _ h (c .before .summary-at .ensures) (c .entry .ensures)
+    summary-is _ _ _ _ _ h (c .before .summary-at .ensures .0) (c .entry .ensures)
 
 pub summary-of-spec : {M : Type 1} → statement M
 summary-of-spec =

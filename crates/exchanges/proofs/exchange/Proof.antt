@@ -1,7 +1,7 @@
--- `exchanges::exchange` meets its contract: 6 where one side would hold too many, or side a, then side b, which still finds what a began with.
-use mathlib.Core.Path.{refl, _∙_}
+-- `exchanges::exchange` meets its contract: 6 where one side would hold too many, or both sides, by the form of the table.
+use mathlib.Core.Path.{refl, sym, _∙_}
 use mathlib.Core.Bool.{true, false}
-use Rattle.exchanges.proofs.Trade.{turned, refusedA, refusedB, shows, room, first, second, traded}
+use Rattle.exchanges.proofs.Trade.{turned, refusedA, refusedB, shows, room, trades, exchanged}
 use borrow.Author.Needs.{needs}
 use Rattle.exchanges.proofs.exchange.Statement.{statement}
 use Rattle.exchanges.proofs.exchange.Tie as tie
@@ -83,29 +83,14 @@ returns-2 c =
     in
     refusedB (start .args .t .now) (start .args .outcome) (start .args .a) (start .args .b) _ _ (at-finishes2 .finishes2 .ensures) room-b
 
-side-requires : tie.Need-side-requires
-side-requires c κs =
-    let at-if1 = c .before .before .before .before in
-    let at-overfills = at-if1 .before in
-    let at-held-of2 = at-overfills .before .before in
-    let at-held-of = at-held-of2 .before .before in
-    let at-finishes2 = at-held-of .before .before in
-    let at-finishes = at-finishes2 .before in
-    let start = at-finishes .before .before .before .before .before .before in
-    let ha = at-held-of .held-of .result in
-    let hb = at-held-of2 .held-of2 .result in
-    let is-a = at-held-of .held-of .ensures .0 in
-    let is-b = at-held-of2 .held-of2 .ensures .0 in
-    let room-a =
-    room (start .pre) ha hb is-a is-b (at-finishes .finishes .result) (at-overfills .overfills .result) false (at-overfills .overfills .ensures)
-    (at-if1 .if1 .left)
-    in
-    first (start .pre) ha hb is-a is-b (at-finishes .finishes .result) room-a
+has-columns-requires : tie.Need-has-columns-requires
+has-columns-requires c κs = search needs
 
-side-requires-2 : tie.Need-side-requires-2
-side-requires-2 c κs =
-    let at-side = c .before .before .before in
-    let at-if2 = at-side .before .before in
+both-sides-requires : tie.Need-both-sides-requires
+both-sides-requires c κs =
+    let at-if3 = c .before in
+    let at-has = at-if3 .before in
+    let at-if2 = at-has .before .before in
     let at-overfills2 = at-if2 .before in
     let at-if1 = at-overfills2 .before .before in
     let at-overfills = at-if1 .before in
@@ -114,43 +99,22 @@ side-requires-2 c κs =
     let at-finishes2 = at-held-of .before .before in
     let at-finishes = at-finishes2 .before in
     let start = at-finishes .before .before .before .before .before .before in
-    let ha = at-held-of .held-of .result in
-    let hb = at-held-of2 .held-of2 .result in
-    let is-a = at-held-of .held-of .ensures .0 in
-    let is-b = at-held-of2 .held-of2 .ensures .0 in
-    let room-a =
-    room (start .pre) ha hb is-a is-b (at-finishes .finishes .result) (at-overfills .overfills .result) false (at-overfills .overfills .ensures)
-    (at-if1 .if1 .left)
-    in
-    let room-b =
-    room (turned (start .pre)) hb ha is-b is-a (at-finishes2 .finishes2 .result) (at-overfills2 .overfills2 .result) false
+    let fits =
+    trades (start .pre) (at-held-of .held-of .result) (at-held-of2 .held-of2 .result) (at-held-of .held-of .ensures .0) (at-held-of2 .held-of2 .ensures .0)
+    (at-finishes .finishes .result) (at-finishes2 .finishes2 .result) (at-overfills .overfills .ensures) (at-if1 .if1 .left)
     (at-overfills2 .overfills2 .ensures) (at-if2 .if2 .left)
     in
-    second (start .pre) ha hb is-a is-b (at-finishes .finishes .result) room-a (at-side .side .ensures) (at-finishes2 .finishes2 .result) room-b
-
-sub-came-a : tie.Need-sub-came-a
-sub-came-a c = search needs
-
-cast-came-a : tie.Need-cast-came-a
-cast-came-a c = search needs
-
-sub-came-b : tie.Need-sub-came-b
-sub-came-b c = search needs
-
-cast-came-b : tie.Need-cast-came-b
-cast-came-b c = search needs
+    fits true (sym (at-if3 .if3 .taken) ∙ at-has .has-columns .ensures)
 
 same-length-3 : tie.Need-same-length-3
-same-length-3 c =
-    let at-side2 = c .before .before in
-    let at-side = at-side2 .before .before .before .before in
-    at-side2 .side2 .kept .0 ∙ at-side .side .kept .0
+same-length-3 c = c .before .before .both-sides .kept .0
 
 returns-3 : tie.Need-returns-3
 returns-3 c =
-    let at-side2 = c .before .before in
-    let at-side = at-side2 .before .before .before .before in
-    let at-if2 = at-side .before .before in
+    let at-both = c .before .before in
+    let at-if3 = at-both .before .before in
+    let at-has = at-if3 .before in
+    let at-if2 = at-has .before .before in
     let at-overfills2 = at-if2 .before in
     let at-if1 = at-overfills2 .before .before in
     let at-overfills = at-if1 .before in
@@ -159,20 +123,58 @@ returns-3 c =
     let at-finishes2 = at-held-of .before .before in
     let at-finishes = at-finishes2 .before in
     let start = at-finishes .before .before .before .before .before .before in
-    let ha = at-held-of .held-of .result in
-    let hb = at-held-of2 .held-of2 .result in
-    let is-a = at-held-of .held-of .ensures .0 in
-    let is-b = at-held-of2 .held-of2 .ensures .0 in
-    let room-a =
-    room (start .pre) ha hb is-a is-b (at-finishes .finishes .result) (at-overfills .overfills .result) false (at-overfills .overfills .ensures)
-    (at-if1 .if1 .left)
-    in
-    let room-b =
-    room (turned (start .pre)) hb ha is-b is-a (at-finishes2 .finishes2 .result) (at-overfills2 .overfills2 .result) false
+    let fits =
+    trades (start .pre) (at-held-of .held-of .result) (at-held-of2 .held-of2 .result) (at-held-of .held-of .ensures .0) (at-held-of2 .held-of2 .ensures .0)
+    (at-finishes .finishes .result) (at-finishes2 .finishes2 .result) (at-overfills .overfills .ensures) (at-if1 .if1 .left)
     (at-overfills2 .overfills2 .ensures) (at-if2 .if2 .left)
     in
-    traded (start .pre) ha hb is-a is-b (at-finishes .finishes .result) room-a (at-side .side .ensures) (at-finishes2 .finishes2 .result) room-b
-    (start .args .outcome) (at-finishes .finishes .ensures) (at-finishes2 .finishes2 .ensures) (at-side2 .side2 .ensures)
+    exchanged (fits true (sym (at-if3 .if3 .taken) ∙ at-has .has-columns .ensures)) (start .args .outcome) (at-finishes .finishes .ensures)
+    (at-finishes2 .finishes2 .ensures) (at-both .both-sides .ensures)
+
+both-sides-requires-2 : tie.Need-both-sides-requires-2
+both-sides-requires-2 c κs =
+    let at-if3 = c .before in
+    let at-has = at-if3 .before in
+    let at-if2 = at-has .before .before in
+    let at-overfills2 = at-if2 .before in
+    let at-if1 = at-overfills2 .before .before in
+    let at-overfills = at-if1 .before in
+    let at-held-of2 = at-overfills .before .before in
+    let at-held-of = at-held-of2 .before .before in
+    let at-finishes2 = at-held-of .before .before in
+    let at-finishes = at-finishes2 .before in
+    let start = at-finishes .before .before .before .before .before .before in
+    let fits =
+    trades (start .pre) (at-held-of .held-of .result) (at-held-of2 .held-of2 .result) (at-held-of .held-of .ensures .0) (at-held-of2 .held-of2 .ensures .0)
+    (at-finishes .finishes .result) (at-finishes2 .finishes2 .result) (at-overfills .overfills .ensures) (at-if1 .if1 .left)
+    (at-overfills2 .overfills2 .ensures) (at-if2 .if2 .left)
+    in
+    fits false (sym (at-if3 .if3 .left) ∙ at-has .has-columns .ensures)
+
+same-length-4 : tie.Need-same-length-4
+same-length-4 c = c .before .before .both-sides2 .kept .0
+
+returns-4 : tie.Need-returns-4
+returns-4 c =
+    let at-both = c .before .before in
+    let at-if3 = at-both .before .before in
+    let at-has = at-if3 .before in
+    let at-if2 = at-has .before .before in
+    let at-overfills2 = at-if2 .before in
+    let at-if1 = at-overfills2 .before .before in
+    let at-overfills = at-if1 .before in
+    let at-held-of2 = at-overfills .before .before in
+    let at-held-of = at-held-of2 .before .before in
+    let at-finishes2 = at-held-of .before .before in
+    let at-finishes = at-finishes2 .before in
+    let start = at-finishes .before .before .before .before .before .before in
+    let fits =
+    trades (start .pre) (at-held-of .held-of .result) (at-held-of2 .held-of2 .result) (at-held-of .held-of .ensures .0) (at-held-of2 .held-of2 .ensures .0)
+    (at-finishes .finishes .result) (at-finishes2 .finishes2 .result) (at-overfills .overfills .ensures) (at-if1 .if1 .left)
+    (at-overfills2 .overfills2 .ensures) (at-if2 .if2 .left)
+    in
+    exchanged (fits false (sym (at-if3 .if3 .left) ∙ at-has .has-columns .ensures)) (start .args .outcome) (at-finishes .finishes .ensures)
+    (at-finishes2 .finishes2 .ensures) (at-both .both-sides2 .ensures)
 
 pub exchange-spec : {M : Type 1} → statement M
 exchange-spec =
@@ -188,11 +190,10 @@ exchange-spec =
     overfills-requires-2
     same-length-2
     returns-2
-    side-requires
-    side-requires-2
-    sub-came-a
-    cast-came-a
-    sub-came-b
-    cast-came-b
+    has-columns-requires
+    both-sides-requires
     same-length-3
-    returns-3)
+    returns-3
+    both-sides-requires-2
+    same-length-4
+    returns-4)

@@ -3,12 +3,12 @@ use mathlib.Core.Path.{_≡_, ap}
 use Prim.Native.Nat.{ℕ}
 use mathlib.Core.List.{List}
 use lib.ListN.{getD}
-use Rattle.meaning.specs.Table.{markAt, mark}
+use Rattle.meaning.specs.Table.{formOf, markAt, mark}
 use borrow.Author.Needs.{needs}
 use Rattle.looks.proofs.mark_of.Statement.{statement}
 use Rattle.looks.proofs.mark_of.Tie as tie
 
-word : (t : List ℕ) (p at : ℕ) → at ≡ markAt p → getD t at 0 ≡ mark t p
+word : (t : List ℕ) (p at : ℕ) → at ≡ markAt (formOf t) p → getD t at 0 ≡ mark t p
 unfolding mark
 word t p at e = ap (λ (i : ℕ). getD t i 0) e
 

@@ -5,10 +5,12 @@ use Prim.Native.Nat.{ℕ}
 use native.Mathlib.Omega.{arith}
 use denote.Ref.{now}
 use Rattle.meaning.specs.Rows.{ascii}
-use Rattle.meaning.specs.Table.{summaryAt, acksAt, part, count}
+use Rattle.meaning.specs.Table.{Vectors, formOf, summaryAt, acksAt, part, count}
 use Rattle.meaning.specs.Journals.{spaced}
 use Rattle.printing.specs.Wrote.{Wrote}
 use Rattle.printing.proofs.Writing.{wrote-as, wrote-then}
+use Rattle.meaning.proofs.TableLaws.{form-is}
+use Rattle.nodeparts.proofs.PartLaws.{long-form}
 use Rattle.nodelines.proofs.LineLaws.{line-is}
 use borrow.Author.Needs.{needs}
 use Rattle.nodelines.proofs.node_line.Statement.{statement}
@@ -21,7 +23,10 @@ slice-aggregate-vector : tie.Need-slice-aggregate-vector
 slice-aggregate-vector c = search needs
 
 summary-at-requires : tie.Need-summary-at-requires
-summary-at-requires c κs = omega arith
+summary-at-requires c κs =
+    let at-number = c .before .before .before .before in
+    let start = at-number .before .before .before .before in
+    (long-form _ (start .pre .0 .long), omega arith)
 
 vector-requires : tie.Need-vector-requires
 vector-requires c κs = omega arith
@@ -61,11 +66,11 @@ returns c =
     let w₂ = at-vector .vector .ensures .within in
     let k₃ = at-vector2 .vector2 .kept .0 in
     let w₃ = at-vector2 .vector2 .ensures .within in
-    let summary : Wrote _ _ (ascii " S" ++ spaced (part (summaryAt (s .args .p)) (count t) t)) 338 _ _ =
-    wrote-as (ap (λ (a : ℕ). ascii " S" ++ spaced (part a (count t) t)) (at-summary-at .summary-at .ensures)) (omega arith) (at-vector .vector .ensures) in
+    let summary : Wrote _ _ (ascii " S" ++ spaced (part (summaryAt (formOf t) (s .args .p)) (count t) t)) 338 _ _ =
+    wrote-as (ap (λ (a : ℕ). ascii " S" ++ spaced (part a (count t) t)) (at-summary-at .summary-at .ensures .0)) (omega arith) (at-vector .vector .ensures) in
     let acks : Wrote _ _ (ascii " K" ++ spaced (part (acksAt (s .args .p)) (count t) t)) 338 _ _ =
     wrote-as (ap (λ (a : ℕ). ascii " K" ++ spaced (part a (count t) t)) (at-acks-at .acks-at .ensures)) (omega arith) (at-vector2 .vector2 .ensures) in
-    wrote-as (line-is t (s .args .p)) (omega arith)
+    wrote-as (line-is t (s .args .p) (form-is Vectors t (s .pre .0 .long))) (omega arith)
     (wrote-then (omega arith) (at-number .number .ensures)
     (wrote-then (omega (arith, s .pre, k₁, w₁)) summary
     (wrote-then (omega (arith, s .pre, k₁, w₁, k₂, w₂)) acks

@@ -8,7 +8,7 @@ use borrow.Author.Tests.{not-true, not-false, le-ltb}
 use lib.ListN.{length, take, drop}
 use lib.Dec.{ltb}
 use Rattle.meaning.specs.Rows.{newer, records, all}
-use Rattle.meaning.specs.Table.{logMost, part, logAt, recordSound}
+use Rattle.meaning.specs.Table.{formOf, logMost, part, logAt, recordSound}
 use Rattle.meaning.proofs.PlaceLaws.{length-part}
 use Rattle.meaning.proofs.RowLaws.{length-newer, length-records}
 use Rattle.openings.specs.Begun.{crowds, heldLog, Shows}
@@ -29,15 +29,15 @@ module _ {t : List ℕ} {q : ℕ} {known : List ℕ} {had shown : ℕ} (s : Show
   count-few : length (newer known (heldLog t q shown)) ≤ shown
   count-few =
       let c = length-newer known (heldLog t q shown) in
-      let k = length-records shown (part (logAt q) (4 * logMost) t) in
+      let k = length-records shown (part (logAt (formOf t) q) (4 * logMost) t) in
       omega arith
 
   roomy : (f : Bool) → had + shown ≤ logMost → false ≡ crowds f known had (heldLog t q shown)
   roomy true h = let c = count-few in sym (le-ltb logMost (had + length (newer known (heldLog t q shown))) (omega arith))
   roomy false h = refl
 
-  module _ (at : ℕ) (ea : at ≡ logAt q) where
-    lent : take ((at + 256) - at) (drop at t) ≡ part (logAt q) (4 * logMost) t
+  module _ (at : ℕ) (ea : at ≡ logAt (formOf t) q) where
+    lent : take ((at + 256) - at) (drop at t) ≡ part (logAt (formOf t) q) (4 * logMost) t
     unfolding part
     lent =
         let e : (at + 256) - at ≡ 4 * logMost = omega arith in
@@ -50,7 +50,7 @@ module _ {t : List ℕ} {q : ℕ} {known : List ℕ} {had shown : ℕ} (s : Show
         let l = s .isSound .long in
         let h = s .isSound .high in
         let r = s .isSound .room q (s .there) in
-        let lp = length-part (logAt q) (4 * logMost) t (omega arith) in
+        let lp = length-part (logAt (formOf t) q) (4 * logMost) t (omega arith) in
         rw (lent, s .long) (omega arith, right-log t (s .isSound) q shown (s .there) (s .theirs))
 
     counted : (c : ℕ) → c ≡ length (newer known (records shown (take ((at + 256) - at) (drop at t)))) → c ≡ length (newer known (heldLog t q shown))

@@ -4,16 +4,17 @@ use Prim.Native.Nat.{ℕ, _+_, _*_, _-_, _<_, _≤_}
 use native.Mathlib.Omega.{arith}
 use mathlib.Core.List.{List, _++_}
 use lib.ListN.{length, take, drop, replicate, length-take, length-drop, length-replicate}
-use Rattle.meaning.specs.Table.{place, logAt, tableWords, nodesMost, logMost}
+use Rattle.meaning.specs.Table.{formOf, formWords, place, nodesMost, logMost}
 use Rattle.meaning.proofs.PlaceLaws.{mid-place}
+use Rattle.purges.specs.Dropped.{logFrom}
 use borrow.Author.Needs.{needs}
 use Rattle.purges.proofs.clear_rows.Statement.{statement}
 use Rattle.purges.proofs.clear_rows.Tie as tie
 
 cleared :
-    (t : List ℕ) (p at left held : ℕ) (w : List ℕ) → length t ≡ tableWords → p < nodesMost → left ≤ held → held ≤ logMost → at ≡ logAt p →
+    (t : List ℕ) (p at left held : ℕ) (w : List ℕ) → length t ≡ formWords (formOf t) → p < nodesMost → left ≤ held → held ≤ logMost → at ≡ logFrom p t →
     w ≡ replicate (length (take ((at + 4 * held) - (at + 4 * left)) (drop (at + 4 * left) t))) 0 →
-    take (at + 4 * left) t ++ (w ++ drop ((at + 4 * held) - (at + 4 * left)) (drop (at + 4 * left) t)) ≡ place (logAt p + 4 * left)
+    take (at + 4 * left) t ++ (w ++ drop ((at + 4 * held) - (at + 4 * left)) (drop (at + 4 * left) t)) ≡ place (logFrom p t + 4 * left)
     (replicate (4 * (held - left)) 0) t
 cleared t p at left held w l b h r e q =
     let k : ℕ = (at + 4 * held) - (at + 4 * left) in
@@ -59,7 +60,7 @@ returns : tie.Need-returns
 returns c =
     let at-clear = c .before .before in
     let at-log-at = at-clear .before .before in
-    let start = at-log-at .before .before in
+    let start = at-log-at .before .before .before in
     cleared (start .args .t .now) (start .args .p) (at-log-at .log-at .result) (start .args .left) (start .args .held) (at-clear .clear .last .0)
     (start .pre .0) (start .pre .1) (start .pre .2) (start .pre .3) (at-log-at .log-at .ensures) (at-clear .clear .ensures)
 

@@ -1,26 +1,35 @@
 -- `purges::first_of` meets its contract: the part that is lent is the node's log.
 use mathlib.Core.Path.{_≡_, ap, _∙_}
-use Prim.Native.Nat.{ℕ, _+_, _*_, _-_, _≤_, _<_}
+use mathlib.Core.Bool.{Bool}
+use Prim.Native.Nat.{ℕ, _+_, _*_, _-_, _≤_}
 use native.Mathlib.Omega.{arith}
 use mathlib.Core.List.{List}
 use lib.ListN.{length, take, drop}
-use Rattle.meaning.specs.Table.{count, held, part, logAt, logMost, Sound}
+use Rattle.meaning.specs.Rows.{records}
+use Rattle.meaning.specs.Table.{node, part, logMost}
 use Rattle.meaning.proofs.PlaceLaws.{part-lent, length-part}
+use Rattle.logs.specs.Carry.{AllBarred}
+use Rattle.purges.specs.Dropped.{logFrom, logOf, Drops}
 use borrow.Author.Needs.{needs}
 use Rattle.purges.proofs.first_of.Statement.{statement}
 use Rattle.purges.proofs.first_of.Tie as tie
 
-module _ (t : List ℕ) (s : Sound t) (p : ℕ) (h : p < count t) (at k : ℕ) (ea : at ≡ logAt p) (ek : k ≡ held t p) where
-  lent : take ((at + 256) - at) (drop at t) ≡ part (logAt p) (4 * logMost) t
+module _ (t : List ℕ) (p k : ℕ) (barred : Bool) (bars : List ℕ) (d : Drops t p k barred bars) (at : ℕ) (ea : at ≡ logFrom p t) where
+  lent : take ((at + 256) - at) (drop at t) ≡ logOf p t
   lent = part-lent at 256 t ∙ ap (λ (a : ℕ). part a 256 t) ea
 
   room : 4 * k ≤ length (take ((at + 256) - at) (drop at t))
   room =
-      let long = s .long in
-      let high = s .high in
-      let r = s .room p h in
-      let l = ap length lent ∙ length-part (logAt p) (4 * logMost) t (omega arith) in
+      let long = d .isSound .long in
+      let high = d .isSound .high in
+      let here = d .there in
+      let r = d .room in
+      let l = ap length lent ∙ length-part (logFrom p t) (4 * logMost) t (omega arith) in
       omega arith
+
+  each : AllBarred barred bars (records k (take ((at + 256) - at) (drop at t)))
+  unfolding node
+  each = rw (lent, d .many) (d .each)
 
 log-at-requires : tie.Need-log-at-requires
 log-at-requires c κs = search needs
@@ -43,20 +52,20 @@ part-first-leaving-end c = search needs
 first-leaving-requires : tie.Need-first-leaving-requires
 first-leaving-requires c κs =
     let at-log-at = c .before in
-    let start = at-log-at .before .before in
-    let r =
-    room (start .args .t .now) (start .pre .0) (start .args .p) (start .pre .1) (at-log-at .log-at .result) (start .args .held) (at-log-at .log-at .ensures)
-    (start .pre .2)
-    in
-    omega (arith, r)
+    let start = at-log-at .before .before .before in
+    let t = start .args .t .now in
+    let bars = start .args .bars .now in (
+      room t (start .args .p) (start .args .held) (start .args .barred) bars (start .pre) (at-log-at .log-at .result) (at-log-at .log-at .ensures),
+      each t (start .args .p) (start .args .held) (start .args .barred) bars (start .pre) (at-log-at .log-at .result) (at-log-at .log-at .ensures),
+    )
 
 returns : tie.Need-returns
 returns c =
     let at-log-at = c .before .before in
-    let start = at-log-at .before .before in
+    let start = at-log-at .before .before .before in
     let e =
-    lent (start .args .t .now) (start .pre .0) (start .args .p) (start .pre .1) (at-log-at .log-at .result) (start .args .held) (at-log-at .log-at .ensures)
-    (start .pre .2)
+    lent (start .args .t .now) (start .args .p) (start .args .held) (start .args .barred) (start .args .bars .now) (start .pre) (at-log-at .log-at .result)
+    (at-log-at .log-at .ensures)
     in
     rw e at (c .first-leaving .ensures)
 

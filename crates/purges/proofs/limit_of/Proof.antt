@@ -1,6 +1,7 @@
 -- `purges::limit_of` meets its contract: the smaller of the row's smallest entry and the mark, and the node of the entry.
 use mathlib.Core.Path.{ap₂, _∙_}
 use Prim.Native.Nat.{min}
+use Rattle.meaning.specs.Node.{limitOf}
 use Rattle.meaning.specs.Steps.{limit}
 use borrow.Author.Needs.{needs}
 use Rattle.purges.proofs.limit_of.Statement.{statement}
@@ -16,7 +17,7 @@ min-of-requires : tie.Need-min-of-requires
 min-of-requires c κs = search needs
 
 returns : tie.Need-returns
-unfolding limit
+unfolding limit limitOf
 returns c =
     let at-mark-of = c .before in
     let low = at-mark-of .before .low-of .ensures in

@@ -1,23 +1,21 @@
 -- `purges::low_of` meets its contract: the part that is lent is the node's row, and its first word stands where it stood.
-use mathlib.Core.Path.{_≡_, ap, ap₂, sym, _∙_}
+use mathlib.Core.Path.{_≡_, ap, sym, _∙_}
 use Prim.Native.Nat.{ℕ, _+_, _-_, _<_}
 use native.Mathlib.Omega.{arith}
 use mathlib.Core.List.{List}
 use lib.ListN.{take, drop, getD, set}
 use lib.Seq.{set-getD}
 use Rattle.meaning.specs.Rows.{least, leastAt}
+use Rattle.meaning.specs.Node.{lows}
 use Rattle.meaning.specs.Steps.{lagging}
-use Rattle.meaning.specs.Table.{count, node, part, acksAt, Sound}
+use Rattle.meaning.specs.Table.{Form, acksWide, count, node, Sound}
 use Rattle.meaning.proofs.PlaceLaws.{part-lent, inside-lent, getD-part}
 use Rattle.meaning.proofs.RowLaws.{leastAt-below}
 use Rattle.meaning.proofs.TableLaws.{node-shaped}
+use Rattle.purges.proofs.PurgeLaws.{acks-lent}
 use borrow.Author.Needs.{needs}
 use Rattle.purges.proofs.low_of.Statement.{statement}
 use Rattle.purges.proofs.low_of.Tie as tie
-
-lent : (t : List ℕ) (p at n : ℕ) → at ≡ acksAt p → n ≡ count t → take ((at + n) - at) (drop at t) ≡ node t p .acks
-unfolding node
-lent t p at n e f = part-lent at n t ∙ ap₂ (λ (a m : ℕ). part a m t) e f
 
 -- a row in which the first word is put where it stood
 own : (t : List ℕ) (at n : ℕ) → 0 < n → set (take ((at + n) - at) (drop at t)) 0 (getD t at 0) ≡ take ((at + n) - at) (drop at t)
@@ -65,7 +63,7 @@ least-with-requires c κs =
     inside-lent (at-acks-at .acks-at .result) _ (start .args .t .now) 0 (omega arith) (omega arith)
 
 returns : tie.Need-returns
-unfolding lagging
+unfolding lagging lows
 returns c =
     let at-acks-at = c .before .before .before in
     let start = at-acks-at .before .before in
@@ -75,11 +73,13 @@ returns c =
     let f = start .pre .2 in
     let row =
     own t (at-acks-at .acks-at .result) (start .args .n) (omega arith) ∙
-    lent t (start .args .p) (at-acks-at .acks-at .result) (start .args .n) (at-acks-at .acks-at .ensures) (start .pre .2)
+    acks-lent t (start .args .p) (at-acks-at .acks-at .result) (start .args .n) (start .pre .3) (at-acks-at .acks-at .ensures) (start .pre .2)
     in
     let found = c .least-with .ensures in
-    let at = found .1 ∙ ap leastAt row in
-    let wide = node-shaped t s (start .args .p) (start .pre .1) .acksLong in
+    let form = start .pre .3 in
+    let at = found .1 ∙ ap leastAt row ∙ ap (λ (f : Form). leastAt (lows f (node t (start .args .p)))) (sym form) in
+    let wide = node-shaped t s (start .args .p) (start .pre .1) .acksLong ∙ ap (λ (f : Form). acksWide f (count t)) form in
+    let e = found .1 ∙ ap leastAt row in
     let below = leastAt-below (node t (start .args .p) .acks) (omega arith) in
     (found .0 ∙ ap least row, at, omega arith)
 

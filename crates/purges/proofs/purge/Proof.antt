@@ -19,11 +19,8 @@ returns c =
 held-of-requires : tie.Need-held-of-requires
 held-of-requires c κs = search needs
 
-limit-of-requires : tie.Need-limit-of-requires
-limit-of-requires c κs = search needs
-
-drop-rows-requires : tie.Need-drop-rows-requires
-drop-rows-requires c κs = search needs
+cut-of-requires : tie.Need-cut-of-requires
+cut-of-requires c κs = search needs
 
 sub-removed : tie.Need-sub-removed
 sub-removed c = search needs
@@ -39,15 +36,14 @@ same-length-2 c = search needs
 
 returns-2 : tie.Need-returns-2
 returns-2 c =
-    let at-drop-rows = c .before .before .before in
-    let at-limit-of = at-drop-rows .before .before in
-    let at-held-of = at-limit-of .before .before in
+    let at-cut-of = c .before .before .before .before in
+    let at-held-of = at-cut-of .before .before in
     let at-if1 = at-held-of .before .before in
     let at-nodes-of = at-if1 .before in
     let start = at-nodes-of .before .before .before in
-    done (start .args .t .now) (start .pre) (start .args .node) (at-drop-rows .drop-rows .ensures .0) (at-nodes-of .nodes-of .result)
-    (at-held-of .held-of .result) (at-limit-of .limit-of .result .at) (at-nodes-of .nodes-of .ensures .0) (at-if1 .if1 .left)
-    (at-held-of .held-of .ensures .0) (at-limit-of .limit-of .ensures .0) (at-limit-of .limit-of .ensures .1)
+    let cut = at-cut-of .cut-of .ensures in
+    done (start .args .t .now) (start .pre) (start .args .node) (cut .dropped) (at-nodes-of .nodes-of .result) (at-held-of .held-of .result)
+    (at-cut-of .cut-of .result .at) (at-nodes-of .nodes-of .ensures .0) (at-if1 .if1 .left) (at-held-of .held-of .ensures .0) (cut .lags)
 
 pub purge-spec : {M : Type 1} → statement M
 purge-spec =
@@ -57,8 +53,7 @@ purge-spec =
     same-length
     returns
     held-of-requires
-    limit-of-requires
-    drop-rows-requires
+    cut-of-requires
     sub-removed
     cast-removed
     cast-lags

@@ -1,5 +1,5 @@
 -- `sessions::meet` meets its contract: 5 where a reading is behind its node's own entry, or the exchange.
-use mathlib.Core.Path.{_≡_, refl, ap, _∙_}
+use mathlib.Core.Path.{_≡_, refl, ap, ap₂, _∙_}
 use mathlib.Core.Bool.{Bool, true, false}
 use mathlib.Core.List.{List}
 use Prim.Native.Nat.{ℕ, _-_, _<_, _≤_}
@@ -8,13 +8,13 @@ use lib.ListN.{length, take}
 use Rattle.meaning.specs.declared.Reply.{Reply}
 use Rattle.meaning.specs.declared.Reply.the-variants.{Refused}
 use Rattle.meaning.specs.declared.Action.the-variants.{Session}
-use Rattle.meaning.specs.Table.{Node, node, count, Sound}
+use Rattle.meaning.specs.Table.{formOf, Node, acksWide, node, count, Sound}
 use Rattle.meaning.specs.Node.{own, opened}
 use Rattle.meaning.specs.Steps.{acted, reported}
 use Rattle.meaning.proofs.TableLaws.{node-shaped}
 use Rattle.meaning.proofs.StepLaws.{opened-shaped, session-is-5-a, session-is-5-b, session-is-6, session-is-0, refuse, accept}
 use Rattle.looks.specs.Applied.{Applied}
-use Rattle.openings.specs.Begun.{begun, Starts}
+use Rattle.openings.specs.Begun.{begun, OwnOnly, Starts}
 use Rattle.openings.proofs.OwnLaws.{own-starts}
 use Rattle.exchanges.specs.Met.{crowded, Exchanged, Meets, Traded}
 use borrow.Author.Needs.{needs}
@@ -42,17 +42,24 @@ module _ (t : List ℕ) (a b ca cb o : ℕ) (pre : Sound t × (a < count t) × (
         let asked = accept t (Session a b ca cb o) (session-is-0 t (pre .0) a b ca cb o (pre .4) (pre .1) (pre .2) (pre .3) ga gb h) in
         (is .0 ∙ asked .0, is .1 ∙ asked .1)
 
-  module _ (n : ℕ) (en : n ≡ count t) (m : ℕ) (em : m ≡ n) (sa ka sb kb : List ℕ) (ea : Starts t a n ca sa ka) (eb : Starts t b n cb sb kb) where
+  -- n entries of a summary are lent, and as many of a row of acknowledgements as the form has
+  module _ (n : ℕ) (en : n ≡ count t) (m : ℕ) (em : m ≡ n) (w : ℕ) (ew : w ≡ acksWide (formOf t) n) (sa ka sb kb : List ℕ)
+      (ea : Starts t a n ca sa ka) (eb : Starts t b n cb sb kb) where
     -- the lent parts of a node's rows are its starting values
-    lent : (p c : ℕ) (s k : List ℕ) → Starts t p n c s k → Starts t p m c s k
-    lent p c s k e = ap (λ (i : ℕ). begun (take i s) (take i k) (node t p .log)) em ∙ e
+    lent : (p c : ℕ) (s k : List ℕ) → Starts t p n c s k → begun t p (take m s) (take w k) (node t p .log) ≡ opened p c (node t p)
+    lent p c s k e = ap₂ (λ (i j : ℕ). begun t p (take i s) (take j k) (node t p .log)) em ew ∙ e
 
-    long : (p c : ℕ) → p < count t → (s k : List ℕ) → Starts t p n c s k → (length (take m s) ≡ count t) × (length (take m k) ≡ count t)
+    long :
+        (p c : ℕ) → p < count t → (s k : List ℕ) → Starts t p n c s k →
+        (length (take m s) ≡ count t) × (length (take w k) ≡ acksWide (formOf t) (count t))
     long p c h s k e =
-        let f = opened-shaped (count t) (node t p) (node-shaped t (pre .0) p h) p c in
+        let f = opened-shaped (formOf t) (count t) p (node t p) (node-shaped t (pre .0) p h) c in
         (ap (λ (z : Node). length (z .summary)) (lent p c s k e) ∙ f .summaryLong, ap (λ (z : Node). length (z .acks)) (lent p c s k e) ∙ f .acksLong)
 
-    ready : Meets t a b (take m sa) (take m ka) (take m sb) (take m kb)
+    alone : (p c : ℕ) → p < count t → (s k : List ℕ) → Starts t p n c s k → OwnOnly t p (take m s) (take w k)
+    alone p c h s k e = rw (em, ew) (own-starts t (pre .0) p h n c s k e)
+
+    ready : Meets t a b (take m sa) (take w ka) (take m sb) (take w kb)
     ready =
         record {
           isSound = pre .0;
@@ -61,15 +68,17 @@ module _ (t : List ℕ) (a b ca cb o : ℕ) (pre : Sound t × (a < count t) × (
           apart = pre .3;
           longA = long a ca (pre .1) sa ka ea;
           longB = long b cb (pre .2) sb kb eb;
-          opensA = own-starts t (pre .0) a (pre .1) m ca sa ka (lent a ca sa ka ea);
-          opensB = own-starts t (pre .0) b (pre .2) m cb sb kb (lent b cb sb kb eb);
+          opensA = alone a ca (pre .1) sa ka ea;
+          opensB = alone b cb (pre .2) sb kb eb;
         }
 
     done :
         (x y : ℕ) → x ≡ own a (node t a) → x ≤ ca → y ≡ own b (node t b) → y ≤ cb → {r : Reply} {u : List ℕ} →
-        Exchanged t o a b (take m sa) (take m ka) (take m sb) (take m kb) r u → Applied t (Session a b ca cb o) r u
+        Exchanged t o a b (take m sa) (take w ka) (take m sb) (take w kb) r u → Applied t (Session a b ca cb o) r u
     done x y ex lx ey ly {r} {u} e =
-        let trade : Traded t o a b (opened a ca (node t a)) (opened b cb (node t b)) r u = rw (lent a ca sa ka ea, lent b cb sb kb eb) at e in
+        let trade : Traded t o a b (opened a ca (node t a)) (opened b cb (node t b)) r u =
+        rw (lent a ca sa ka ea, lent b cb sb kb eb) at e
+        in
         by-room trade (omega arith) (omega arith) (crowded o (opened a ca (node t a)) (opened b cb (node t b))) refl
 
 own-of-requires : tie.Need-own-of-requires
@@ -106,6 +115,9 @@ nodes-of-requires : tie.Need-nodes-of-requires
 nodes-of-requires c κs =
     let start = c .before .before .before .before .before .before .before .before in
     start .pre .0
+
+acks-wide-requires : tie.Need-acks-wide-requires
+acks-wide-requires c κs = search needs
 
 slice-aggregate-opening : tie.Need-slice-aggregate-opening
 slice-aggregate-opening c = search needs
@@ -166,13 +178,16 @@ exchange-requires c κs =
     let at-lent = c .before .before .before .before .before .before in
     let at-opening2 = at-lent .before .before .before .before .before in
     let at-opening = at-opening2 .before .before .before .before .before .before in
-    let at-nodes-of = at-opening .before .before .before .before in
+    let at-acks-wide = at-opening .before .before .before .before in
+    let at-nodes-of = at-acks-wide .before .before in
     let at-if2 = at-nodes-of .before .before in
     let start = at-if2 .before .before .before .before .before .before .before in
     let n = at-nodes-of .nodes-of .result - 0 in
     let z : n ≡ at-nodes-of .nodes-of .result = omega arith in
+    let w = at-acks-wide .acks-wide .result - 0 in
+    let wide = at-acks-wide .acks-wide .ensures .0 in
     ready (start .args .t .now) (start .args .a) (start .args .b) (start .args .ca) (start .args .cb) (start .args .outcome) (start .pre)
-    (at-nodes-of .nodes-of .result) (at-nodes-of .nodes-of .ensures .0) n z (at-opening .opening .last .0) (at-opening .opening .last .1 .0)
+    (at-nodes-of .nodes-of .result) (at-nodes-of .nodes-of .ensures .0) n z w (omega arith) (at-opening .opening .last .0) (at-opening .opening .last .1 .0)
     (at-opening2 .opening2 .last .0) (at-opening2 .opening2 .last .1 .0) (at-opening .opening .ensures) (at-opening2 .opening2 .ensures)
 
 same-length-3 : tie.Need-same-length-3
@@ -184,7 +199,8 @@ returns-3 c =
     let at-lent = at-exchange .before .before .before .before .before .before .before in
     let at-opening2 = at-lent .before .before .before .before .before in
     let at-opening = at-opening2 .before .before .before .before .before .before in
-    let at-nodes-of = at-opening .before .before .before .before in
+    let at-acks-wide = at-opening .before .before .before .before in
+    let at-nodes-of = at-acks-wide .before .before in
     let at-if2 = at-nodes-of .before .before in
     let at-own-of2 = at-if2 .before in
     let at-if1 = at-own-of2 .before .before in
@@ -192,8 +208,10 @@ returns-3 c =
     let start = at-own-of .before .before .before in
     let n = at-nodes-of .nodes-of .result - 0 in
     let z : n ≡ at-nodes-of .nodes-of .result = omega arith in
+    let w = at-acks-wide .acks-wide .result - 0 in
+    let wide = at-acks-wide .acks-wide .ensures .0 in
     done (start .args .t .now) (start .args .a) (start .args .b) (start .args .ca) (start .args .cb) (start .args .outcome) (start .pre)
-    (at-nodes-of .nodes-of .result) (at-nodes-of .nodes-of .ensures .0) n z (at-opening .opening .last .0) (at-opening .opening .last .1 .0)
+    (at-nodes-of .nodes-of .result) (at-nodes-of .nodes-of .ensures .0) n z w (omega arith) (at-opening .opening .last .0) (at-opening .opening .last .1 .0)
     (at-opening2 .opening2 .last .0) (at-opening2 .opening2 .last .1 .0) (at-opening .opening .ensures) (at-opening2 .opening2 .ensures)
     (at-own-of .own-of .result) (at-own-of2 .own-of2 .result) (at-own-of .own-of .ensures) (at-if1 .if1 .left) (at-own-of2 .own-of2 .ensures)
     (at-if2 .if2 .left) (at-exchange .exchange .ensures)
@@ -209,6 +227,7 @@ meet-spec =
     same-length-2
     returns-2
     nodes-of-requires
+    acks-wide-requires
     slice-aggregate-opening
     slice-aggregate-opening-2
     opening-requires

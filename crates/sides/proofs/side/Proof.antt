@@ -1,19 +1,25 @@
 -- `sides::side` meets its contract: the records taken and the rows merged are the node put.
-use mathlib.Core.Path.{_≡_, sym, ap, _∙_}
-use mathlib.Core.Bool.{Bool, false}
+use mathlib.Core.Path.{sym, ap, ap₂, _∙_}
+use mathlib.Core.Bool.{Bool}
 use mathlib.Core.List.{List}
-use Prim.Native.Nat.{ℕ, _+_}
+use Prim.Native.Nat.{ℕ, _+_, _≤_}
 use native.Mathlib.Omega.{arith}
 use lib.ListN.{length}
-use Rattle.meaning.specs.Table.{node}
+use Rattle.meaning.specs.Table.{Form, Vectors, Columns, formOf, formWords, logMost, acksWide, count, held, node}
+use Rattle.meaning.specs.Steps.{onColumns}
 use Rattle.openings.specs.Begun.{heldLog}
-use Rattle.sides.specs.Ended.{rowsPut, Merges, Sided, Sides, Takes, Took}
-use Rattle.sides.proofs.SideLaws.{crowd, came-carried, untaken, side-put}
+use Rattle.sides.specs.Ended.{came, Merged, Merges, Sided, Sides, Takes, Took}
+use Rattle.sides.proofs.KeptLaws.{kept-form, kept-count, kept-own}
+use Rattle.sides.proofs.SideLaws.{crowd, came-carried, taken-long, taken-rows, side-put}
 use borrow.Author.Needs.{needs}
 use Rattle.sides.proofs.side.Statement.{statement}
 use Rattle.sides.proofs.side.Tie as tie
 
-module _ {t : List ℕ} {f : Bool} {p q : ℕ} {sp kp sq kq : List ℕ} {had shown : ℕ} (s : Sides t f p q sp kp sq kq had shown) where
+acks-few : (f : Form) (n : ℕ) → acksWide f n ≤ n
+acks-few Vectors n = omega arith
+acks-few Columns n = omega arith
+
+module _ {t : List ℕ} {c f : Bool} {p q : ℕ} {sp kp sq kq : List ℕ} {had shown : ℕ} (s : Sides t c f p q sp kp sq kq had shown) where
   takes : Takes t f p q sp had shown
   takes =
       record {
@@ -24,33 +30,48 @@ module _ {t : List ℕ} {f : Bool} {p q : ℕ} {sp kp sq kq : List ℕ} {had sho
         long = s .longP .0;
         mine = s .mine;
         theirs = s .theirs;
-        room = crowd t p sp kp sq kq (heldLog t q shown) had (s .mine) f ∙ s .room;
+        room = crowd t p q sp kp sq kq (heldLog t q shown) had (s .mine) f ∙ s .room;
       }
 
-  untouched : {r : ℕ} {u : List ℕ} → Took t f p q sp had shown r u → f ≡ false → t ≡ u
-  untouched took e = untaken t (s .isSound) p (s .here) f e sp (heldLog t q shown) ∙ sym (took .leaves)
+  fits : {r : ℕ} {u : List ℕ} → Took t f p q sp had shown r u → held t p + length (came f sp (heldLog t q shown)) ≤ logMost
+  fits took =
+      let e = took .total in
+      let m = took .most in
+      let d = s .mine in
+      omega arith
 
-  merges : (u : List ℕ) → length u ≡ length t → (f ≡ false → t ≡ u) → Merges u f p sp kp sq kq
-  merges u l same =
-      let h = s .isSound .high in
-      let g = s .here in
-      let x = s .longP .0 in
-      let y = s .longP .1 in
+  merges : {r : ℕ} (u : List ℕ) → Took t f p q sp had shown r u → Merges u c p q sp kp sq kq
+  merges u took =
+      let new = came f sp (heldLog t q shown) in
+      let long = taken-long t (s .isSound) p (s .here) new (fits took) u (took .leaves) in
+      let same = taken-rows t (s .isSound) p (s .here) new (fits took) u (took .leaves) in
+      let form = kept-form t u long same in
+      let many = kept-count t u long same in
+      let hi = s .isSound .high in
+      let wide = ap₂ acksWide form many in
+      let few = acks-few (formOf t) (count t) in
+      let lk = s .longP .1 in
       record {
-        long = l ∙ s .isSound .long;
-        here = omega arith;
-        own = (omega arith, omega arith);
-        high = (omega arith, omega arith);
-        same = (s .longQ .0 ∙ sym x, s .longQ .1 ∙ sym y);
-        opens = λ e. rw (same e) at (s .opens);
+        mine =
+            record {
+              long = long ∙ s .isSound .long ∙ ap formWords (sym form);
+              high = rw many hi;
+              here = rw many (s .here);
+              told = s .told ∙ ap onColumns (sym form);
+              longP = (s .longP .0 ∙ sym many, s .longP .1 ∙ sym wide);
+              opens = kept-own t u long same p sp kp hi (s .here) (s .longP .0) (omega arith) (s .opens);
+            };
+        there = rw many (s .there);
+        apart = s .apart;
+        longQ = (s .longQ .0 ∙ sym many, s .longQ .1 ∙ sym wide);
       }
 
-  done : {r : ℕ} {u : List ℕ} → Took t f p q sp had shown r u → (v : List ℕ) → v ≡ rowsPut f p sp kp sq kq u → Sided t f p q sp kp sq kq had shown r v
+  done : {r : ℕ} {u : List ℕ} → Took t f p q sp had shown r u → (v : List ℕ) → Merged f u p q sp kp sq kq v → Sided t f p q sp kp sq kq had shown r v
   done {u} took v ev =
       record {
-        total = took .total ∙ ap (λ (i : ℕ). had + i) (came-carried f sp kp sq kq (node t p .log) (heldLog t q shown));
+        total = took .total ∙ ap (λ (i : ℕ). had + i) (came-carried f t p q sp kp sq kq (node t p .log) (heldLog t q shown));
         most = took .most;
-        leaves = side-put t (s .isSound) p (s .here) f sp kp sq kq (heldLog t q shown) u v (s .room) (took .leaves) ev;
+        leaves = side-put t (s .isSound) p q (s .here) (s .there) f sp kp sq kq (heldLog t q shown) u v (fits took) (took .leaves) ev;
       }
 
 take-requires : tie.Need-take-requires
@@ -61,7 +82,7 @@ merge-requires c κs =
     let at-take = c .before .before .before in
     let at-slices = at-take .before .before in
     let start = at-slices .before .before .before .before .before in
-    merges (start .pre) (at-take .take .last .0) (at-take .take .kept .0) (untouched (start .pre) (at-take .take .ensures))
+    merges (start .pre) (at-take .take .last .0) (at-take .take .ensures)
 
 same-length : tie.Need-same-length
 same-length c = search needs

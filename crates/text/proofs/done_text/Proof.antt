@@ -6,7 +6,7 @@ use lib.ListN.{length}
 use borrow.Author.Tests.{eq-eqb, ne-eqb, le-leb, lt-leb}
 use denote.Ref.{now}
 use Rattle.meaning.specs.declared.Outcome.the-variants.{Done}
-use Rattle.meaning.specs.Table.{tableWords, nodesMost, count}
+use Rattle.meaning.specs.Table.{Vectors, formWords, nodesMost, count}
 use Rattle.text.specs.Text.{textMost, hasNodes}
 use Rattle.printing.proofs.Writing.{wrote-as, wrote-none}
 use Rattle.nodeparts.proofs.PartLaws.{count-is}
@@ -21,7 +21,7 @@ returns c =
     let out = now (s .args .out) in
     let t = now (s .args .t) in
     let x = Done (s .args .n) (s .args .steps) (s .args .refused) in
-    wrote-as (text-none out x t (s .pre) (rw (ne-eqb (length t) tableWords (c .if1 .taken)))) (omega arith) (wrote-none out 0 textMost)
+    wrote-as (text-none out x t (s .pre) (rw (ne-eqb (length t) (formWords Vectors) (c .if1 .taken)))) (omega arith) (wrote-none out 0 textMost)
 
 cast-if2 : tie.Need-cast-if2
 cast-if2 c = search needs
@@ -37,7 +37,7 @@ returns-2 c =
     let t = now (s .args .t) in
     let x = Done (s .args .n) (s .args .steps) (s .args .refused) in
     let e = count-is t in
-    let long = eq-eqb (length t) tableWords (at-if1 .if1 .left) in
+    let long = eq-eqb (length t) (formWords Vectors) (at-if1 .if1 .left) in
     let many = lt-leb (count t) nodesMost (omega arith) in
     wrote-as (text-none out x t (s .pre) (rw (long, many))) (omega arith) (wrote-none out 0 textMost)
 
@@ -52,15 +52,17 @@ returns-3 c =
     let t = now (s .args .t) in
     let x = Done (s .args .n) (s .args .steps) (s .args .refused) in
     let e = count-is t in
-    let long = eq-eqb (length t) tableWords (at-if1 .if1 .left) in
+    let long = eq-eqb (length t) (formWords Vectors) (at-if1 .if1 .left) in
     let few = le-leb (count t) nodesMost (omega arith) in
     let many = lt-leb (s .args .n) nodesMost (c .if3 .taken) in
     wrote-as (text-none out x t (s .pre) (rw (long, few, many))) (omega arith) (wrote-none out 0 textMost)
 
 all-lines-requires : tie.Need-all-lines-requires
 all-lines-requires c κs =
-    let e = count-is (now (c .before .before .before .before .before .before .before .args .t)) in
-    (record { long = c .before .before .before .before .if1 .left; few = omega arith }, omega arith, omega arith)
+    let at-if1 = c .before .before .before .before in
+    let t = now (at-if1 .before .before .before .args .t) in
+    let e = count-is t in
+    (record { long = at-if1 .if1 .left; few = omega arith }, omega arith, omega arith)
 
 same-length : tie.Need-same-length
 same-length c = search needs
@@ -75,7 +77,7 @@ returns-4 c =
     let t = now (s .args .t) in
     let x = Done (s .args .n) (s .args .steps) (s .args .refused) in
     let e = count-is t in
-    let long = eq-eqb (length t) tableWords (at-if1 .if1 .left) in
+    let long = eq-eqb (length t) (formWords Vectors) (at-if1 .if1 .left) in
     let few = le-leb (count t) nodesMost (omega arith) in
     let h : hasNodes x t ≡ true = rw (long, few, le-leb (s .args .n) nodesMost (at-if3 .if3 .left)) in
     wrote-as (text-whole out x t (s .pre) h) (omega arith) (at-lines .all-lines .ensures)

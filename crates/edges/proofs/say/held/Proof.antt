@@ -19,11 +19,8 @@ loop-holds c = search needs
 slice-aggregate-field : tie.Need-slice-aggregate-field Inv-loop μ-loop
 slice-aggregate-field c = search needs
 
-held-at-requires : tie.Need-held-at-requires Inv-loop μ-loop
-held-at-requires c κs = search needs
-
-word-requires : tie.Need-word-requires Inv-loop μ-loop
-word-requires c κs = search needs
+held-by-requires : tie.Need-held-by-requires Inv-loop μ-loop
+held-by-requires c κs = search needs
 
 field-requires : tie.Need-field-requires Inv-loop μ-loop
 field-requires c κs = search needs
@@ -49,8 +46,7 @@ held-spec =
     nodes-requires
     loop-holds
     slice-aggregate-field
-    held-at-requires
-    word-requires
+    held-by-requires
     field-requires
     add-p
     loop-less

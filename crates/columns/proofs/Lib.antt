@@ -1,0 +1,5 @@
+pub mod InPlace
+pub mod LayLaws
+pub mod LowerLaws
+pub mod MergeLaws
+pub mod RaiseLaws

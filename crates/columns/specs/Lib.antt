@@ -1,0 +1,2 @@
+pub mod Merged
+pub mod Smallest
