@@ -1,15 +1,15 @@
 // The action that an accepted line holds. Inner functions: what they require, `reading` shows.
 ghost use Rattle.std.specs.Prelude.{◌≡◌, true, ◌<◌, length};
-ghost use Rattle.meaning.specs.Frames.{bytes_of, allDigits, lineFields, actionOf};
-ghost use Rattle.heads.specs.Heads.{Whole, writeAt, sessionAt, purgeAt, deliverAt};
+ghost use Rattle.meaning.specs.Frames.{bytes_of, all_digits, line_fields, action_of};
+ghost use Rattle.heads.specs.Heads.{Whole, write_at, session_at, purge_at, deliver_at};
 
 use meaning::Action;
 use numbers::{byte, word};
 
 // The write that a line of 24 digits holds.
 fn write_at(s: &[u8]) -> Action
-    requires { (allDigits s.now ≡ true) × (length s.now ≡ 24) }
-    ensures { result ≡ writeAt s.now }
+    requires { (all_digits s.now ≡ true) × (length s.now ≡ 24) }
+    ensures { result ≡ write_at s.now }
 {
     Action::Write {
         node: byte(s, 1),
@@ -21,8 +21,8 @@ fn write_at(s: &[u8]) -> Action
 
 // The session that a line of 26 digits holds.
 fn session_at(s: &[u8]) -> Action
-    requires { (allDigits s.now ≡ true) × (length s.now ≡ 26) }
-    ensures { result ≡ sessionAt s.now }
+    requires { (all_digits s.now ≡ true) × (length s.now ≡ 26) }
+    ensures { result ≡ session_at s.now }
 {
     Action::Session {
         a: byte(s, 1),
@@ -35,16 +35,16 @@ fn session_at(s: &[u8]) -> Action
 
 // The purge that a line of 6 digits holds.
 fn purge_at(s: &[u8]) -> Action
-    requires { (allDigits s.now ≡ true) × (length s.now ≡ 6) }
-    ensures { result ≡ purgeAt s.now }
+    requires { (all_digits s.now ≡ true) × (length s.now ≡ 6) }
+    ensures { result ≡ purge_at s.now }
 {
     Action::Purge { node: byte(s, 1) }
 }
 
 // The delivery that a line of 6 digits holds.
 fn deliver_at(s: &[u8]) -> Action
-    requires { (allDigits s.now ≡ true) × (length s.now ≡ 6) }
-    ensures { result ≡ deliverAt s.now }
+    requires { (all_digits s.now ≡ true) × (length s.now ≡ 6) }
+    ensures { result ≡ deliver_at s.now }
 {
     Action::Deliver { node: byte(s, 1) }
 }
@@ -52,7 +52,7 @@ fn deliver_at(s: &[u8]) -> Action
 // The action of a line, by its kind.
 pub fn action(s: &[u8], kind: u8) -> Action
     requires { Whole s.now kind × (0 < kind) }
-    ensures { result ≡ actionOf kind (lineFields (bytes_of s.now)) }
+    ensures { result ≡ action_of kind (line_fields (bytes_of s.now)) }
 {
     match kind {
         1 => write_at(s),

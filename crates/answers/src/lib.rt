@@ -1,15 +1,15 @@
 // Answers taken apart for C: a reply's numbers, a count's, a writer's, a checked line's.
 ghost use Rattle.std.specs.Prelude.{◌≡◌, [], ◌∷◌, ◌≤◌, get_or};
-ghost use Rattle.meaning.specs.Steps.{replyValues};
-ghost use Rattle.meaning.specs.Verdicts.{countValues};
-ghost use Rattle.meaning.specs.Frames.{framedValues};
-ghost use Rattle.answers.specs.Told.{faultValues};
+ghost use Rattle.meaning.specs.Steps.{reply_values};
+ghost use Rattle.meaning.specs.Verdicts.{count_values};
+ghost use Rattle.meaning.specs.Frames.{framed_values};
+ghost use Rattle.answers.specs.Told.{fault_values};
 
 use meaning::{Count, Fault, Framed, Reply};
 
 // A reply's refusal number, 0 for none.
 pub fn number_of(answer: Reply) -> u32
-    ensures { result ≡ get_or (replyValues answer) 0 0 }
+    ensures { result ≡ get_or (reply_values answer) 0 0 }
 {
     match answer {
         Reply::Written => 0,
@@ -22,7 +22,7 @@ pub fn number_of(answer: Reply) -> u32
 
 // A reply's first count: what a session carried to a, what a purge removed, or what a delivery gave.
 pub fn first_of(answer: Reply) -> u32
-    ensures { result ≡ get_or (replyValues answer) 1 0 }
+    ensures { result ≡ get_or (reply_values answer) 1 0 }
 {
     match answer {
         Reply::Written => 0,
@@ -35,7 +35,7 @@ pub fn first_of(answer: Reply) -> u32
 
 // A reply's second count: what a session carried to b, or the node that lags at a purge.
 pub fn second_of(answer: Reply) -> u32
-    ensures { result ≡ get_or (replyValues answer) 2 0 }
+    ensures { result ≡ get_or (reply_values answer) 2 0 }
 {
     match answer {
         Reply::Written => 0,
@@ -48,7 +48,7 @@ pub fn second_of(answer: Reply) -> u32
 
 // Takes a count's answer apart: its number, and its two counts and their gap into the words lent.
 pub fn store(answer: Count, scrubbed: &mut u32, touched: &mut u32, gap: &mut u32) -> u32
-    ensures { (result ∷ scrubbed.new ∷ touched.new ∷ gap.new ∷ []) ≡ countValues answer }
+    ensures { (result ∷ scrubbed.new ∷ touched.new ∷ gap.new ∷ []) ≡ count_values answer }
 {
     match answer {
         Count::Counted {
@@ -72,8 +72,8 @@ pub fn store(answer: Count, scrubbed: &mut u32, touched: &mut u32, gap: &mut u32
 
 // The writer's answer for C: the refusal number, 0 for none, and the length through the reference, 0 if refused.
 pub fn report(answer: Framed, length: &mut u32) -> u32
-    requires { get_or (framedValues answer) 1 0 ≤ 27 }
-    ensures { (result ∷ length.new ∷ []) ≡ framedValues answer }
+    requires { get_or (framed_values answer) 1 0 ≤ 27 }
+    ensures { (result ∷ length.new ∷ []) ≡ framed_values answer }
 {
     match answer {
         Framed::Length { bytes } => {
@@ -89,7 +89,7 @@ pub fn report(answer: Framed, length: &mut u32) -> u32
 
 // A checked line's answer for C: the refusal number, 0 for none, and its place in the line through the reference, 0 for none.
 pub fn locate(answer: Fault, place: &mut usize) -> u32
-    ensures { (result ∷ place.new ∷ []) ≡ faultValues answer }
+    ensures { (result ∷ place.new ∷ []) ≡ fault_values answer }
 {
     *place = answer.place;
     answer.number

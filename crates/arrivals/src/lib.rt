@@ -2,7 +2,7 @@
 // They know no offset: where a log stands is the caller's to say. Inner functions: what they require, the table's code shows.
 ghost use Rattle.std.specs.Prelude.{◌≡◌, true, [], ◌∷◌, ◌*◌, ◌≤◌, ◌<◌, length};
 ghost use Rattle.meaning.specs.Rows.{newer, records, all};
-ghost use Rattle.meaning.specs.Table.{recordSound};
+ghost use Rattle.meaning.specs.Table.{record_sound};
 
 use meaning::Record;
 use records::{is_newer, record_at};
@@ -17,7 +17,7 @@ fn newer_one(summary: &[u32], r: Record) -> usize
 
 // How many of the first `held` records of a log are newer than a summary.
 pub fn newer_count(summary: &[u32], log: &[u32], held: usize) -> usize
-    requires { (4 * held ≤ length log.now) × (all (recordSound (length summary.now)) (records held log.now) ≡ true) }
+    requires { (4 * held ≤ length log.now) × (all (record_sound (length summary.now)) (records held log.now) ≡ true) }
     ensures { result ≡ length (newer summary.now (records held log.now)) }
 {
     let mut k: usize = 0;

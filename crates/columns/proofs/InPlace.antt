@@ -5,7 +5,7 @@ use Prim.Native.Nat.{ℕ, ◌+◌, ◌-◌, ◌<◌}
 use native.Mathlib.Omega.{arith}
 use lib.ListN.{length, get_or, set, take, drop}
 use Rattle.meaning.specs.Table.{part, place}
-use Rattle.meaning.proofs.PlaceLaws.{length-place, set-place, place-append, get_d_beyond, part-lent}
+use Rattle.meaning.proofs.PlaceLaws.{length-place, set-place, place-append, get_d_beyond, part_lent}
 
 module _ (t u xs : List ℕ) (to i : ℕ) (long : length xs ≡ i) (here : to + i < length t) (is : u ≡ place to xs t) where
   -- the next entry
@@ -17,9 +17,9 @@ module _ (t u xs : List ℕ) (to i : ℕ) (long : length xs ≡ i) (here : to + 
       place-append to (to + i) xs (v ∷ []) t (omega arith) (omega arith)
 
   -- what stood there is still there
-  pub next-left : get_or u (to + i) 0 ≡ get_or t (to + i) 0
-  next-left = ap (λ (z : List ℕ). get_or z (to + i) 0) is ∙ get_d_beyond to xs t (omega arith) (to + i) (omega arith)
+  pub next_left : get_or u (to + i) 0 ≡ get_or t (to + i) 0
+  next_left = ap (λ (z : List ℕ). get_or z (to + i) 0) is ∙ get_d_beyond to xs t (omega arith) (to + i) (omega arith)
 
 -- a part that is lent from a place known under another name
-pub part-there : (t : List ℕ) (from at n : ℕ) → from ≡ at → take ((from + n) - from) (drop from t) ≡ part at n t
-part-there t from at n e = part-lent from n t ∙ ap (λ (m : ℕ). part m n t) e
+pub part_there : (t : List ℕ) (from at n : ℕ) → from ≡ at → take ((from + n) - from) (drop from t) ≡ part at n t
+part_there t from at n e = part_lent from n t ∙ ap (λ (m : ℕ). part m n t) e

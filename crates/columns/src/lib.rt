@@ -1,8 +1,8 @@
 // Leaves over the columns of a node, in a table that has them: raised by a partner's, and the smallest of them all. Document 02, T-06.
 // Inner functions: what they require, the table's entry points show.
 ghost use Rattle.std.specs.Prelude.{◌≡◌, [], ◌+◌, ◌≤◌, ◌<◌, length, get_or};
-ghost use Rattle.meaning.specs.Table.{nodesMost, columnAt, part};
-ghost use Rattle.columns.specs.Merged.{brought, raisedBy, raisedColumns, mergedColumns, Raises, Merges};
+ghost use Rattle.meaning.specs.Table.{nodes_most, column_at, part};
+ghost use Rattle.columns.specs.Merged.{brought, raised_by, raised_columns, merged_columns, Raises, Merges};
 ghost use Rattle.columns.specs.Smallest.{LoweredBy, Lowers, Lowest};
 
 use rows::{copy_row, max_of, min_of, put_entry};
@@ -10,7 +10,7 @@ use rows::{copy_row, max_of, min_of, put_entry};
 // Raises the words from a place by a row: each becomes the greater of both.
 fn raise_at(t: &mut [u32], at: usize, row: &[u32])
     requires { at + length row.now ≤ length t.old }
-    ensures { t.new ≡ raisedBy (length row.now) at row.now t.old }
+    ensures { t.new ≡ raised_by (length row.now) at row.now t.old }
 {
     let mut i: usize = 0;
     while i < row.len() {
@@ -22,7 +22,7 @@ fn raise_at(t: &mut [u32], at: usize, row: &[u32])
 // Raises n words of a table by n others of it, which lie apart from them: no copy is made of either.
 fn raise_from(t: &mut [u32], to: usize, from: usize, n: usize)
     requires { (to + n ≤ length t.old) × (from + n ≤ length t.old) × (to < from + n → from < to + n → ⊥) }
-    ensures { t.new ≡ raisedBy n to (part from n t.old) t.old }
+    ensures { t.new ≡ raised_by n to (part from n t.old) t.old }
 {
     let mut i: usize = 0;
     while i < n {
@@ -34,7 +34,7 @@ fn raise_from(t: &mut [u32], to: usize, from: usize, n: usize)
 // Raises p's column for k by q's. Of q's own column sq stands for what the table has: q may have changed since the session began.
 fn raise_column(t: &mut [u32], p: usize, q: usize, k: usize, n: usize, sq: &[u32])
     requires { Raises t.old p q n sq.now × (k < n) }
-    ensures { t.new ≡ raisedBy n (columnAt p k) (get_or (brought n q sq.now t.old) k []) t.old }
+    ensures { t.new ≡ raised_by n (column_at p k) (get_or (brought n q sq.now t.old) k []) t.old }
 {
     let to = layout::column_at(p, k);
     if k == q {
@@ -47,7 +47,7 @@ fn raise_column(t: &mut [u32], p: usize, q: usize, k: usize, n: usize, sq: &[u32
 // "takes the greater starting value entry by entry", in each of n columns: no word beyond n entries or n columns is touched.
 fn raise_columns(t: &mut [u32], p: usize, q: usize, n: usize, sq: &[u32])
     requires { Raises t.old p q n sq.now }
-    ensures { t.new ≡ raisedColumns n p q sq.now t.old }
+    ensures { t.new ≡ raised_columns n p q sq.now t.old }
 {
     let mut k: usize = 0;
     while k < n {
@@ -60,7 +60,7 @@ fn raise_columns(t: &mut [u32], p: usize, q: usize, n: usize, sq: &[u32])
 // entry by entry", "and its own column also takes the partner's own".
 pub fn merge(t: &mut [u32], p: usize, q: usize, n: usize, sp: &[u32], sq: &[u32])
     requires { Merges t.old p q n sp.now sq.now }
-    ensures { t.new ≡ mergedColumns p q sp.now sq.now t.old }
+    ensures { t.new ≡ merged_columns p q sp.now sq.now t.old }
 {
     let own = layout::column_at(p, p);
     put_entry(t, own, p, sp);
@@ -85,8 +85,8 @@ fn lower_by(row: &mut [u32], column: &[u32]) -> u32
 
 // The same with p's column for k of a table.
 fn lower_column(row: &mut [u32], t: &[u32], p: usize, k: usize) -> u32
-    requires { (columnAt nodesMost 0 ≤ length t.now) × (p < nodesMost) × (k < nodesMost) × (0 < length row.old) × (length row.old ≤ nodesMost) }
-    ensures { LoweredBy row.old (part (columnAt p k) (length row.old) t.now) row.new result }
+    requires { (column_at nodes_most 0 ≤ length t.now) × (p < nodes_most) × (k < nodes_most) × (0 < length row.old) × (length row.old ≤ nodes_most) }
+    ensures { LoweredBy row.old (part (column_at p k) (length row.old) t.now) row.new result }
 {
     let at = layout::column_at(p, k);
     let end = at + row.len();

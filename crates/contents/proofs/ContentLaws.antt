@@ -12,124 +12,124 @@ use Rattle.meaning.specs.declared.Line.{Line}
 use Rattle.meaning.specs.declared.Line.TheVariants.{Begin, Act, Refused}
 use Rattle.meaning.specs.Frames.{
   bytes_of,
-  journalKinds,
-  widthsIn,
-  digitsIn,
-  digitsOf,
-  actionOf,
+  journal_kinds,
+  widths_in,
+  digits_in,
+  digits_of,
+  action_of,
   fields_of,
   kind_of,
-  lineKind,
-  lineFields,
-  lineRefusal,
-  linePlace,
-  lineValues,
-  readLine,
+  line_kind,
+  line_fields,
+  line_refusal,
+  line_place,
+  line_values,
+  read_line,
 }
-use Rattle.meaning.proofs.FrameLaws.{Good, good, clear, read-refused, read-begin, read-act}
+use Rattle.meaning.proofs.FrameLaws.{Good, good, clear, read_refused, read_begin, read_act}
 use Rattle.numbers.specs.Numbers.{field_at}
-use Rattle.heads.specs.Heads.{noLine, short_of, Whole, writeAt, sessionAt, purgeAt, deliverAt}
-use Rattle.heads.proofs.FieldLaws.{rest-purge, fieldsFrom, line-fields, action-write, action-session, action-purge, action-deliver}
-use Rattle.heads.proofs.QuickLaws.{kind-24, kind-26, field-small, short-tells, held-six, held-not}
+use Rattle.heads.specs.Heads.{no_line, short_of, Whole, write_at, session_at, purge_at, deliver_at}
+use Rattle.heads.proofs.FieldLaws.{rest_purge, fields_from, line_fields_lem, action_write, action_session, action_purge, action_deliver}
+use Rattle.heads.proofs.QuickLaws.{kind_24, kind_26, field_small, short_tells, held_six, held_not}
 
 -- past the fields
 pub past : (xs : List ℕ) (i : ℕ) → length xs ≤ i → 0 ≡ get_or xs i 0
 past xs i h = sym (get_or-eq_default xs 0 h)
 
 -- the value at a place
-pub value-at : (xs : List ℕ) (i k r : ℕ) → i ≡ k → r ≡ get_or xs k 0 → r ≡ get_or xs i 0
-value-at xs i k r e p = rw e p
+pub value_at : (xs : List ℕ) (i k r : ℕ) → i ≡ k → r ≡ get_or xs k 0 → r ≡ get_or xs i 0
+value_at xs i k r e p = rw e p
 
 -- the fields stand after the refusal, its place and the kind
-after-three : (a b c : ℕ) (xs : List ℕ) (i : ℕ) → get_or xs i 0 ≡ get_or (a ∷ b ∷ c ∷ xs) (3 + i) 0
-after-three a b c xs i = let e : 3 + i ≡ suc (suc (suc i)) = omega arith in rw e refl
+after_three : (a b c : ℕ) (xs : List ℕ) (i : ℕ) → get_or xs i 0 ≡ get_or (a ∷ b ∷ c ∷ xs) (3 + i) 0
+after_three a b c xs i = let e : 3 + i ≡ suc (suc (suc i)) = omega arith in rw e refl
 
 module _ (l : List ℕ) where
   -- a refused line
-  pub refused-at : (line n : ℕ) → lineRefusal l ≡ n → (n ≡ 0 → ⊥) → Refused n (linePlace l) ≡ readLine line l
-  refused-at line zero e h = absurd (h refl)
-  refused-at line (suc k) e h = read-refused line k l e
+  pub refused_at : (line n : ℕ) → line_refusal l ≡ n → (n ≡ 0 → ⊥) → Refused n (line_place l) ≡ read_line line l
+  refused_at line zero e h = absurd (h refl)
+  refused_at line (suc k) e h = read_refused line k l e
 
-  pub refused-field : (i : ℕ) → (lineRefusal l ≡ 0 → ⊥) → 0 ≡ get_or (lineValues (readLine 0 l)) (3 + i) 0
-  refused-field i h =
-      past (lineRefusal l ∷ linePlace l ∷ []) (3 + i) (omega arith)
-      ∙ ap (λ (x : Line). get_or (lineValues x) (3 + i) 0) (refused-at 0 (lineRefusal l) refl h)
+  pub refused_field : (i : ℕ) → (line_refusal l ≡ 0 → ⊥) → 0 ≡ get_or (line_values (read_line 0 l)) (3 + i) 0
+  refused_field i h =
+      past (line_refusal l ∷ line_place l ∷ []) (3 + i) (omega arith)
+      ∙ ap (λ (x : Line). get_or (line_values x) (3 + i) 0) (refused_at 0 (line_refusal l) refl h)
 
   -- a line that is not refused, by its kind
-  module _ (clear : lineRefusal l ≡ 0) where
+  module _ (clear : line_refusal l ≡ 0) where
     right : Good l
     right = good l clear
 
-    module _ (kind : ℕ) (is : lineKind (bytes_of l) ≡ kind) where
-      pub line-whole : Whole l kind
-      line-whole = record { digits = right.digits; is = is; long = right.long ∙ ap digitsOf is; has-kind = rw is at right.has-kind }
+    module _ (kind : ℕ) (is : line_kind (bytes_of l) ≡ kind) where
+      pub line_whole : Whole l kind
+      line_whole = record { digits = right.digits; is = is; long = right.long ∙ ap digits_of is; has_kind = rw is at right.has_kind }
 
       -- a start
       module _ (start : kind ≡ 0) where
-        pub line-begin : (line n : ℕ) → n ≡ field_at l 1 1 → Begin n ≡ readLine line l
-        unfolding widthsIn journalKinds fieldsFrom
-        line-begin line n e =
-            let zeroth : get_or (lineFields (bytes_of l)) 0 0 ≡ field_at l 1 1 = ap (λ (f : List ℕ). get_or f 0 0) (line-fields l 0 (is ∙ start)) in
-            ap Begin (e ∙ sym zeroth) ∙ read-begin line l clear (is ∙ start)
+        pub line_begin : (line n : ℕ) → n ≡ field_at l 1 1 → Begin n ≡ read_line line l
+        unfolding widths_in journal_kinds fields_from
+        line_begin line n e =
+            let zeroth : get_or (line_fields (bytes_of l)) 0 0 ≡ field_at l 1 1 = ap (λ (f : List ℕ). get_or f 0 0) (line_fields_lem l 0 (is ∙ start)) in
+            ap Begin (e ∙ sym zeroth) ∙ read_begin line l clear (is ∙ start)
 
-        start-field : (i r : ℕ) → r ≡ get_or (fields_of (purgeAt l)) i 0 → r ≡ get_or (lineValues (readLine 0 l)) (3 + i) 0
-        start-field i r e =
-            e ∙ after-three 0 0 0 (field_at l 1 1 ∷ []) i ∙ ap (λ (x : Line). get_or (lineValues x) (3 + i) 0) (line-begin 0 (field_at l 1 1) refl)
+        start_field : (i r : ℕ) → r ≡ get_or (fields_of (purge_at l)) i 0 → r ≡ get_or (line_values (read_line 0 l)) (3 + i) 0
+        start_field i r e =
+            e ∙ after_three 0 0 0 (field_at l 1 1 ∷ []) i ∙ ap (λ (x : Line). get_or (line_values x) (3 + i) 0) (line_begin 0 (field_at l 1 1) refl)
 
       -- a step
       module _ (step : kind ≡ 0 → ⊥) where
-        pub line-act : (line : ℕ) → Act (record { line = line; action = actionOf kind (lineFields (bytes_of l)) }) ≡ readLine line l
-        line-act line = rw is at (read-act line l clear (λ z. step (sym is ∙ z)))
+        pub line_act : (line : ℕ) → Act (record { line = line; action = action_of kind (line_fields (bytes_of l)) }) ≡ read_line line l
+        line_act line = rw is at (read_act line l clear (λ z. step (sym is ∙ z)))
 
-        step_field : (x : Action) (i r : ℕ) → x ≡ actionOf kind (lineFields (bytes_of l)) → r ≡ get_or (fields_of x) i 0
-            → r ≡ get_or (lineValues (readLine 0 l)) (3 + i) 0
+        step_field : (x : Action) (i r : ℕ) → x ≡ action_of kind (line_fields (bytes_of l)) → r ≡ get_or (fields_of x) i 0
+            → r ≡ get_or (line_values (read_line 0 l)) (3 + i) 0
         step_field x i r e p =
-            let y = actionOf kind (lineFields (bytes_of l)) in
-            p ∙ ap (λ (z : Action). get_or (fields_of z) i 0) e ∙ after-three 0 0 (kind_of y) (fields_of y) i
-            ∙ ap (λ (z : Line). get_or (lineValues z) (3 + i) 0) (line-act 0)
+            let y = action_of kind (line_fields (bytes_of l)) in
+            p ∙ ap (λ (z : Action). get_or (fields_of z) i 0) e ∙ after_three 0 0 (kind_of y) (fields_of y) i
+            ∙ ap (λ (z : Line). get_or (line_values z) (3 + i) 0) (line_act 0)
 
       -- the field of a kind that has only one
-      pub short-value : (i r : ℕ) → (kind ≡ 1 → ⊥) → (kind ≡ 2 → ⊥) → r ≡ get_or (fields_of (purgeAt l)) i 0 → r ≡ get_or (lineValues (readLine 0 l)) (3 + i) 0
-      short-value i r p q e = go (eqb kind 0) (eqb kind 5) refl refl
+      pub short_value : (i r : ℕ) → (kind ≡ 1 → ⊥) → (kind ≡ 2 → ⊥) → r ≡ get_or (fields_of (purge_at l)) i 0 → r ≡ get_or (line_values (read_line 0 l)) (3 + i) 0
+      short_value i r p q e = go (eqb kind 0) (eqb kind 5) refl refl
         where
-          go : (b d : Bool) → eqb kind 0 ≡ b → eqb kind 5 ≡ d → r ≡ get_or (lineValues (readLine 0 l)) (3 + i) 0
-          go true d z w = start-field (eqb-true kind 0 z) i r e
-          go false true z w = step_field (eqb-false kind 0 z) (deliverAt l) i r (action-deliver l kind is (eqb-true kind 5 w)) e
+          go : (b d : Bool) → eqb kind 0 ≡ b → eqb kind 5 ≡ d → r ≡ get_or (line_values (read_line 0 l)) (3 + i) 0
+          go true d z w = start_field (eqb-true kind 0 z) i r e
+          go false true z w = step_field (eqb-false kind 0 z) (deliver_at l) i r (action_deliver l kind is (eqb-true kind 5 w)) e
           go false false z w =
-              let three : kind ≡ 3 = rest-purge kind line-whole.has-kind (eqb-false kind 0 z) p q (eqb-false kind 5 w) in
-              step_field (eqb-false kind 0 z) (purgeAt l) i r (action-purge l kind is three) e
+              let three : kind ≡ 3 = rest_purge kind line_whole.has_kind (eqb-false kind 0 z) p q (eqb-false kind 5 w) in
+              step_field (eqb-false kind 0 z) (purge_at l) i r (action_purge l kind is three) e
 
-      pub write-value : (i r : ℕ) → kind ≡ 1 → r ≡ get_or (fields_of (writeAt l)) i 0 → r ≡ get_or (lineValues (readLine 0 l)) (3 + i) 0
-      write-value i r p e = step_field (λ z. omega arith) (writeAt l) i r (action-write l kind is p) e
+      pub write_value : (i r : ℕ) → kind ≡ 1 → r ≡ get_or (fields_of (write_at l)) i 0 → r ≡ get_or (line_values (read_line 0 l)) (3 + i) 0
+      write_value i r p e = step_field (λ z. omega arith) (write_at l) i r (action_write l kind is p) e
 
-      pub session-value : (i r : ℕ) → kind ≡ 2 → r ≡ get_or (fields_of (sessionAt l)) i 0 → r ≡ get_or (lineValues (readLine 0 l)) (3 + i) 0
-      session-value i r p e = step_field (λ z. omega arith) (sessionAt l) i r (action-session l kind is p) e
+      pub session_value : (i r : ℕ) → kind ≡ 2 → r ≡ get_or (fields_of (session_at l)) i 0 → r ≡ get_or (line_values (read_line 0 l)) (3 + i) 0
+      session_value i r p e = step_field (λ z. omega arith) (session_at l) i r (action_session l kind is p) e
 
 -- a line of 24 or 26 characters that is not refused
-module _ (l : List ℕ) (z : lineRefusal l ≡ 0) where
-  pub field-write : (i r : ℕ) → length l ≡ 24 → r ≡ get_or (fields_of (writeAt l)) i 0 → r ≡ get_or (lineValues (readLine 0 l)) (3 + i) 0
-  field-write i r long e = write-value l z 1 (kind-24 l (good l z) long) i r refl e
+module _ (l : List ℕ) (z : line_refusal l ≡ 0) where
+  pub field_write : (i r : ℕ) → length l ≡ 24 → r ≡ get_or (fields_of (write_at l)) i 0 → r ≡ get_or (line_values (read_line 0 l)) (3 + i) 0
+  field_write i r long e = write_value l z 1 (kind_24 l (good l z) long) i r refl e
 
-  pub field-session : (i r : ℕ) → length l ≡ 26 → r ≡ get_or (fields_of (sessionAt l)) i 0 → r ≡ get_or (lineValues (readLine 0 l)) (3 + i) 0
-  field-session i r long e = session-value l z 2 (kind-26 l (good l z) long) i r refl e
+  pub field_session : (i r : ℕ) → length l ≡ 26 → r ≡ get_or (fields_of (session_at l)) i 0 → r ≡ get_or (line_values (read_line 0 l)) (3 + i) 0
+  field_session i r long e = session_value l z 2 (kind_26 l (good l z) long) i r refl e
 
 -- the field of a line shorter than a write's, by what it holds
-module _ (l : List ℕ) (x : ℕ) (e : x ≡ short_of l) (few : length l < 24) (h : x < noLine) where
-  tells : Good l × (x ≡ 256 * lineKind (bytes_of l) + field_at l 1 1)
-  tells = short-tells l x e h
+module _ (l : List ℕ) (x : ℕ) (e : x ≡ short_of l) (few : length l < 24) (h : x < no_line) where
+  tells : Good l × (x ≡ 256 * line_kind (bytes_of l) + field_at l 1 1)
+  tells = short_tells l x e h
 
-  held-field : x % 256 ≡ field_at l 1 1
-  held-field = omega (arith, tells.1, field-small l tells.0 (held-six l x e few h))
+  held_field : x % 256 ≡ field_at l 1 1
+  held_field = omega (arith, tells.1, field_small l tells.0 (held_six l x e few h))
 
-  short-of : (i r : ℕ) → r ≡ get_or (fields_of (purgeAt l)) i 0 → r ≡ get_or (lineValues (readLine 0 l)) (3 + i) 0
-  unfolding digitsIn widthsIn journalKinds
-  short-of i r =
-      let no_write = held-not l x e few h 1 (omega arith) in
-      let no-session = held-not l x e few h 2 (omega arith) in
-      short-value l (clear l tells.0) (lineKind (bytes_of l)) refl i r no_write no-session
+  short_of_lem : (i r : ℕ) → r ≡ get_or (fields_of (purge_at l)) i 0 → r ≡ get_or (line_values (read_line 0 l)) (3 + i) 0
+  unfolding digits_in widths_in journal_kinds
+  short_of_lem i r =
+      let no_write = held_not l x e few h 1 (omega arith) in
+      let no_session = held_not l x e few h 2 (omega arith) in
+      short_value l (clear l tells.0) (line_kind (bytes_of l)) refl i r no_write no_session
 
-  pub field-held : (i : ℕ) → i ≡ 0 → x % 256 ≡ get_or (lineValues (readLine 0 l)) (3 + i) 0
-  field-held i z = short-of i (x % 256) (value-at (field_at l 1 1 ∷ []) i 0 (x % 256) z held-field)
+  pub field_held : (i : ℕ) → i ≡ 0 → x % 256 ≡ get_or (line_values (read_line 0 l)) (3 + i) 0
+  field_held i z = short_of_lem i (x % 256) (value_at (field_at l 1 1 ∷ []) i 0 (x % 256) z held_field)
 
-  pub field_past : (i : ℕ) → (i ≡ 0 → ⊥) → 0 ≡ get_or (lineValues (readLine 0 l)) (3 + i) 0
-  field_past i n = short-of i 0 (past (field_at l 1 1 ∷ []) i (omega arith))
+  pub field_past : (i : ℕ) → (i ≡ 0 → ⊥) → 0 ≡ get_or (line_values (read_line 0 l)) (3 + i) 0
+  field_past i n = short_of_lem i 0 (past (field_at l 1 1 ∷ []) i (omega arith))

@@ -1,14 +1,14 @@
 // One field of a line, by its place among its kind's fields. Inner functions: what they require, `reading` shows.
 ghost use Rattle.std.specs.Prelude.{◌≡◌, true, ◌+◌, ◌<◌, length, get_or};
-ghost use Rattle.meaning.specs.Frames.{allDigits, fields_of, lineValues, readLine};
-ghost use Rattle.heads.specs.Heads.{writeAt, sessionAt};
+ghost use Rattle.meaning.specs.Frames.{all_digits, fields_of, line_values, read_line};
+ghost use Rattle.heads.specs.Heads.{write_at, session_at};
 
 use numbers::{byte, word};
 
 // A field of a write by its place among the fields, 0 beyond them.
 fn of_write(s: &[u8], index: u32) -> u32
-    requires { (allDigits s.now ≡ true) × (length s.now ≡ 24) }
-    ensures { result ≡ get_or (fields_of (writeAt s.now)) index 0 }
+    requires { (all_digits s.now ≡ true) × (length s.now ≡ 24) }
+    ensures { result ≡ get_or (fields_of (write_at s.now)) index 0 }
 {
     match index {
         0 => byte(s, 1) as u32,
@@ -21,8 +21,8 @@ fn of_write(s: &[u8], index: u32) -> u32
 
 // A field of a session by its place among the fields, 0 beyond them.
 fn of_session(s: &[u8], index: u32) -> u32
-    requires { (allDigits s.now ≡ true) × (length s.now ≡ 26) }
-    ensures { result ≡ get_or (fields_of (sessionAt s.now)) index 0 }
+    requires { (all_digits s.now ≡ true) × (length s.now ≡ 26) }
+    ensures { result ≡ get_or (fields_of (session_at s.now)) index 0 }
 {
     match index {
         0 => byte(s, 1) as u32,
@@ -37,7 +37,7 @@ fn of_session(s: &[u8], index: u32) -> u32
 // The field at a place of a line of 24 characters, 0 where it is refused.
 pub fn write_field(s: &[u8], index: u32) -> u32
     requires { length s.now ≡ 24 }
-    ensures { result ≡ get_or (lineValues (readLine 0 s.now)) (3 + index) 0 }
+    ensures { result ≡ get_or (line_values (read_line 0 s.now)) (3 + index) 0 }
 {
     if !quick::is_write(s) {
         return 0;
@@ -48,7 +48,7 @@ pub fn write_field(s: &[u8], index: u32) -> u32
 // The field at a place of a line of 26 characters, 0 where it is refused.
 pub fn session_field(s: &[u8], index: u32) -> u32
     requires { length s.now ≡ 26 }
-    ensures { result ≡ get_or (lineValues (readLine 0 s.now)) (3 + index) 0 }
+    ensures { result ≡ get_or (line_values (read_line 0 s.now)) (3 + index) 0 }
 {
     if !quick::is_session(s) {
         return 0;
@@ -59,7 +59,7 @@ pub fn session_field(s: &[u8], index: u32) -> u32
 // The field at a place of a line shorter than a write's, 0 where it is refused.
 pub fn short_field(s: &[u8], index: u32) -> u32
     requires { length s.now < 24 }
-    ensures { result ≡ get_or (lineValues (readLine 0 s.now)) (3 + index) 0 }
+    ensures { result ≡ get_or (line_values (read_line 0 s.now)) (3 + index) 0 }
 {
     let held = quick::short_held(s);
     if heads::NO_LINE <= held {

@@ -2,8 +2,8 @@
 // Inner functions: what they require, `deliver` shows; what `deliver` requires, the table's entry points show.
 ghost use Rattle.std.specs.Prelude.{◌≡◌, ◌*◌, ◌≤◌, ◌<◌, length, ltb};
 ghost use Rattle.meaning.specs.declared.Action.TheVariants.{Deliver};
-ghost use Rattle.meaning.specs.Rows.{due, inOrder, least, words};
-ghost use Rattle.meaning.specs.Table.{logMost, count, node, place, putMark, Sound};
+ghost use Rattle.meaning.specs.Rows.{due, in_order, least, words};
+ghost use Rattle.meaning.specs.Table.{log_most, count, node, place, put_mark, Sound};
 ghost use Rattle.meaning.specs.Node.{raised};
 ghost use Rattle.meaning.specs.Steps.{refusal};
 ghost use Rattle.looks.specs.Applied.{Applied};
@@ -40,7 +40,7 @@ fn due_of(t: &[u32], p: usize, held: usize, mark: u32, limit: u32) -> usize
 
 // 7: "a list too short for what is due", fewer than four words for each due record.
 fn lacks(t: &[u32], p: usize, held: usize, mark: u32, limit: u32, room: usize) -> bool
-    requires { Sound t.now × (p < count t.now) × (held ≡ Rattle.meaning.specs.Table.held t.now p) × (held ≤ logMost) }
+    requires { Sound t.now × (p < count t.now) × (held ≡ Rattle.meaning.specs.Table.held t.now p) × (held ≤ log_most) }
     ensures { result ≡ ltb room (4 * length (due mark limit (node t.now p).log)) }
 {
     // Where all that is held has room, nothing is counted.
@@ -52,10 +52,10 @@ fn lacks(t: &[u32], p: usize, held: usize, mark: u32, limit: u32, room: usize) -
 
 // Writes what is due at node p into a list with room for it, "by timestamp and then origin": how many records they are.
 fn fill(t: &[u32], list: &mut [u32], p: usize, held: usize, mark: u32, limit: u32) -> usize
-    requires sound { Sound t.now × (p < count t.now) × (held ≡ Rattle.meaning.specs.Table.held t.now p) × (held ≤ logMost) }
+    requires sound { Sound t.now × (p < count t.now) × (held ≡ Rattle.meaning.specs.Table.held t.now p) × (held ≤ log_most) }
     requires p_in_bounds { 4 * length (due mark limit (node t.now p).log) ≤ length list.old }
     ensures value { (result ≡ length (due mark limit (node t.now p).log)) × (result ≤ held) }
-    ensures list_after { list.new ≡ place 0 (words (inOrder (due mark limit (node t.now p).log))) list.old }
+    ensures list_after { list.new ≡ place 0 (words (in_order (due mark limit (node t.now p).log))) list.old }
 {
     let at = layout::log_at(t, p);
     let end = at + layout::LOG_WORDS;
@@ -65,7 +65,7 @@ fn fill(t: &[u32], list: &mut [u32], p: usize, held: usize, mark: u32, limit: u3
 // "raises the mark to that entry where it is greater": else no word is written.
 fn raise_mark(t: &mut [u32], p: usize, mark: u32, limit: u32)
     requires { Sound t.old × (p < count t.old) × (mark ≡ Rattle.meaning.specs.Table.mark t.old p) × (limit ≡ least (node t.old p).summary) }
-    ensures { t.new ≡ putMark p (raised mark (node t.old p)) t.old }
+    ensures { t.new ≡ put_mark p (raised mark (node t.old p)) t.old }
 {
     if mark < limit {
         let at = layout::mark_at(t, p);

@@ -1,31 +1,31 @@
 -- Laws of a line's digits: a character's number, the pass over a line, and the digits' numbers.
 use Rattle.std.proofs.Common.{◌≡◌, ℕ, zero, suc, ◌+◌, ◌-◌, ◌*◌, ◌/◌, ◌%◌, ◌<◌, ◌≤◌, Bool, true, false, cond, ◌&&◌, leb, List, [], ◌∷◌, ◌++◌, length, get_or, take, set, sym, refl, ap, ◌∙◌, add-one, arith, length-set, take_all, take-suc, take-suc-set, below_more, eq-eqb, ne_eqb, le-leb, leb-true}
 use lib.Bits.{bit_or, or_lt}
-use Rattle.meaning.specs.Frames.{digit, digitValue, bytes_of, allDigits, total}
+use Rattle.meaning.specs.Frames.{digit, digit_value, bytes_of, all_digits, total}
 use Rattle.meaning.proofs.BitLaws.{or_left, or_right}
-use Rattle.meaning.proofs.FrameLaws.{length-bytesOf, byte_at, digits-at, digits-all, total-append}
-use Rattle.digits.specs.Digits.{letterValue, weigh, sum_of, values_of}
+use Rattle.meaning.proofs.FrameLaws.{length-bytes_of, byte_at, digits_at, digits_all, total-append}
+use Rattle.digits.specs.Digits.{letter_value, weigh, sum_of, values_of}
 
 abbrev pub Digit : List ℕ → ℕ → Type 0
-Digit l i = digitValue (get_or l i 0) < 16
+Digit l i = digit_value (get_or l i 0) < 16
 
 -- a letter's number, and a digit's that is no decimal one
-pub letter-some : (c : ℕ) → 65 ≤ c → c ≤ 70 → c - 55 ≡ letterValue c
-unfolding letterValue
-letter-some c p q = cc (le-leb 65 c p, le-leb c 70 q)
+pub letter_some : (c : ℕ) → 65 ≤ c → c ≤ 70 → c - 55 ≡ letter_value c
+unfolding letter_value
+letter_some c p q = cc (le-leb 65 c p, le-leb c 70 q)
 
-pub letter-none : (c : ℕ) → (65 ≤ c → c ≤ 70 → ⊥) → 16 ≡ letterValue c
-unfolding letterValue
-letter-none c p = go (leb 65 c) (leb c 70) refl refl
+pub letter_none : (c : ℕ) → (65 ≤ c → c ≤ 70 → ⊥) → 16 ≡ letter_value c
+unfolding letter_value
+letter_none c p = go (leb 65 c) (leb c 70) refl refl
   where
     go : (a b : Bool) → leb 65 c ≡ a → leb c 70 ≡ b → 16 ≡ cond (a && b) (c - 55) 16
     go true true x y = absurd (p (leb-true 65 c x) (leb-true c 70 y))
     go true false x y = refl
     go false b x y = refl
 
-pub digit-other : (c : ℕ) → (48 ≤ c → c ≤ 57 → ⊥) → letterValue c ≡ digitValue c
-unfolding letterValue digitValue
-digit-other c p = go (leb 48 c) (leb c 57) refl refl
+pub digit_other : (c : ℕ) → (48 ≤ c → c ≤ 57 → ⊥) → letter_value c ≡ digit_value c
+unfolding letter_value digit_value
+digit_other c p = go (leb 48 c) (leb c 57) refl refl
   where
     other : ℕ
     other = cond (leb 65 c && leb c 70) (c - 55) 16
@@ -36,36 +36,36 @@ digit-other c p = go (leb 48 c) (leb c 57) refl refl
     go false b x y = refl
 
 -- a digit's share of the sum
-pub weigh-even : (place v : ℕ) → place % 2 ≡ 0 → weigh place v ≡ 16 * v % 256
+pub weigh_even : (place v : ℕ) → place % 2 ≡ 0 → weigh place v ≡ 16 * v % 256
 unfolding weigh
-weigh-even place v p = cc (eq-eqb (place % 2) 0 p)
+weigh_even place v p = cc (eq-eqb (place % 2) 0 p)
 
-pub weigh-odd : (place v : ℕ) → (place % 2 ≡ 0 → ⊥) → weigh place v ≡ v
+pub weigh_odd : (place v : ℕ) → (place % 2 ≡ 0 → ⊥) → weigh place v ≡ v
 unfolding weigh
-weigh-odd place v p = cc (ne_eqb (place % 2) 0 p)
+weigh_odd place v p = cc (ne_eqb (place % 2) 0 p)
 
 -- the pass over a line, one character a turn
 module _ (l : List ℕ) where
   -- what the bits seen tell of the characters before a place, and what the line's digits tell of them
   abbrev pub Seen : ℕ → ℕ → Type 0
-  Seen seen n = (allDigits l ≡ true → seen < 16) × (seen < 16 → (i : ℕ) → i < n → Digit l i)
+  Seen seen n = (all_digits l ≡ true → seen < 16) × (seen < 16 → (i : ℕ) → i < n → Digit l i)
 
   pub seen_none : Seen 0 0
   seen_none = (λ d. omega arith, λ h i p. absurd (omega arith))
 
-  pub seen_more : (seen n d : ℕ) → n < length l → d ≡ digitValue (get_or l n 0) → Seen seen n → Seen (bit_or seen d) (n + 1)
+  pub seen_more : (seen n d : ℕ) → n < length l → d ≡ digit_value (get_or l n 0) → Seen seen n → Seen (bit_or seen d) (n + 1)
   seen_more seen n d h e s = (
-    λ a. or_lt 4 seen d (s.0 a) (omega (arith, digits-at l n a h)),
+    λ a. or_lt 4 seen d (s.0 a) (omega (arith, digits_at l n a h)),
     λ p i q. below_more (Digit l) n (s.1 (or_left 16 seen d p)) (omega (arith, or_right 16 seen d p)) i q,
   )
 
-  pub seen_all : (seen n : ℕ) → n ≡ length l → Seen seen n → seen ≤ 15 → allDigits l ≡ true
-  seen_all seen n e s h = digits-all l (λ i p. s.1 (omega arith) i (omega arith))
+  pub seen_all : (seen n : ℕ) → n ≡ length l → Seen seen n → seen ≤ 15 → all_digits l ≡ true
+  seen_all seen n e s h = digits_all l (λ i p. s.1 (omega arith) i (omega arith))
 
-  pub seen-stray : (seen n : ℕ) → Seen seen n → 15 < seen → allDigits l ≡ false
-  seen-stray seen n s h = go (allDigits l) refl
+  pub seen_stray : (seen n : ℕ) → Seen seen n → 15 < seen → all_digits l ≡ false
+  seen_stray seen n s h = go (all_digits l) refl
     where
-      go : (b : Bool) → allDigits l ≡ b → b ≡ false
+      go : (b : Bool) → all_digits l ≡ b → b ≡ false
       go true d = absurd (omega (arith, s.0 d))
       go false d = refl
 
@@ -73,7 +73,7 @@ module _ (l : List ℕ) where
   abbrev pub Sum : ℕ → ℕ → Type 0
   Sum sum n =
       ((j : ℕ) → n ≡ 2 * j → sum ≡ total (take j (bytes_of l)))
-      × ((j : ℕ) → n ≡ 2 * j + 1 → sum ≡ (total (take j (bytes_of l)) + 16 * digitValue (get_or l (2 * j) 0)) % 256)
+      × ((j : ℕ) → n ≡ 2 * j + 1 → sum ≡ (total (take j (bytes_of l)) + 16 * digit_value (get_or l (2 * j) 0)) % 256)
 
   pub sum-none : Sum 0 0
   unfolding total
@@ -83,78 +83,78 @@ module _ (l : List ℕ) where
       even zero p = refl
       even (suc j) p = absurd (omega arith)
 
-  module _ (n v w sum : ℕ) (h : n < length l) (e : v ≡ digitValue (get_or l n 0)) (f : w ≡ weigh n v) (s : Sum sum n) where
-    first-half : (j : ℕ) → n + 1 ≡ 2 * j + 1 → (sum + w) % 256 ≡ (total (take j (bytes_of l)) + 16 * digitValue (get_or l (2 * j) 0)) % 256
-    first-half j p =
+  module _ (n v w sum : ℕ) (h : n < length l) (e : v ≡ digit_value (get_or l n 0)) (f : w ≡ weigh n v) (s : Sum sum n) where
+    first_half : (j : ℕ) → n + 1 ≡ 2 * j + 1 → (sum + w) % 256 ≡ (total (take j (bytes_of l)) + 16 * digit_value (get_or l (2 * j) 0)) % 256
+    first_half j p =
         let here : n ≡ 2 * j = omega arith in
-        let share : w ≡ 16 * v % 256 = f ∙ weigh-even n v (omega arith) in
-        let digit : v ≡ digitValue (get_or l (2 * j) 0) = rw here at e in
+        let share : w ≡ 16 * v % 256 = f ∙ weigh_even n v (omega arith) in
+        let digit : v ≡ digit_value (get_or l (2 * j) 0) = rw here at e in
         omega (arith, s.0 j here, share, digit)
 
-    second-half : (j : ℕ) → n + 1 ≡ 2 * j → (sum + w) % 256 ≡ total (take j (bytes_of l))
+    second_half : (j : ℕ) → n + 1 ≡ 2 * j → (sum + w) % 256 ≡ total (take j (bytes_of l))
     unfolding total
-    second-half zero p = absurd (omega arith)
-    second-half (suc j) p =
+    second_half zero p = absurd (omega arith)
+    second_half (suc j) p =
         let here : n ≡ 2 * j + 1 = omega arith in
-        let share : w ≡ v = f ∙ weigh-odd n v (omega arith) in
-        let digit : v ≡ digitValue (get_or l (2 * j + 1) 0) = rw here at e in
-        let byte = byte_at l j (omega (arith, length-bytesOf l)) in
+        let share : w ≡ v = f ∙ weigh_odd n v (omega arith) in
+        let digit : v ≡ digit_value (get_or l (2 * j + 1) 0) = rw here at e in
+        let byte = byte_at l j (omega (arith, length-bytes_of l)) in
         let more : take (suc j) (bytes_of l) ≡ take j (bytes_of l) ++ (get_or (bytes_of l) j 0 ∷ [])
-        = take-suc (bytes_of l) j 0 (omega (arith, length-bytesOf l)) in
+        = take-suc (bytes_of l) j 0 (omega (arith, length-bytes_of l)) in
         rw more (omega (arith, total-append (take j (bytes_of l)) (get_or (bytes_of l) j 0 ∷ []), s.1 j here, share, digit, byte))
 
     pub sum_more : (next : ℕ) → next ≡ (sum + w) % 256 → Sum next (n + 1)
-    sum_more next q = (λ j p. q ∙ second-half j p, λ j p. q ∙ first-half j p)
+    sum_more next q = (λ j p. q ∙ second_half j p, λ j p. q ∙ first_half j p)
 
   pub sum-all : (n sum : ℕ) → n ≡ length l → length l % 2 ≡ 0 → Sum sum n → sum ≡ total (bytes_of l)
-  sum-all n sum e even s = s.0 (length l / 2) (omega arith) ∙ ap total (take_all (length l / 2) (bytes_of l) (omega (arith, length-bytesOf l)))
+  sum-all n sum e even s = s.0 (length l / 2) (omega arith) ∙ ap total (take_all (length l / 2) (bytes_of l) (omega (arith, length-bytes_of l)))
 
 -- the sum of a line, and what it tells
 module _ (l : List ℕ) where
-  pub sum-stray : allDigits l ≡ false → 256 ≡ sum_of l
+  pub sum_stray : all_digits l ≡ false → 256 ≡ sum_of l
   unfolding sum_of
-  sum-stray p = cc
+  sum_stray p = cc
 
-  pub sum-right : (sum : ℕ) → allDigits l ≡ true → sum ≡ total (bytes_of l) → sum ≡ sum_of l
+  pub sum_right : (sum : ℕ) → all_digits l ≡ true → sum ≡ total (bytes_of l) → sum ≡ sum_of l
   unfolding sum_of
-  sum-right sum p e = e ∙ cc
+  sum_right sum p e = e ∙ cc
 
-  pub sum-digits : (sum : ℕ) → sum ≡ sum_of l → sum < 256 → (allDigits l ≡ true) × (total (bytes_of l) ≡ sum)
+  pub sum_digits : (sum : ℕ) → sum ≡ sum_of l → sum < 256 → (all_digits l ≡ true) × (total (bytes_of l) ≡ sum)
   unfolding sum_of
-  sum-digits sum e h = go (allDigits l) refl e
+  sum_digits sum e h = go (all_digits l) refl e
     where
-      go : (b : Bool) → allDigits l ≡ b → sum ≡ cond b (total (bytes_of l)) 256 → (b ≡ true) × (total (bytes_of l) ≡ sum)
+      go : (b : Bool) → all_digits l ≡ b → sum ≡ cond b (total (bytes_of l)) 256 → (b ≡ true) × (total (bytes_of l) ≡ sum)
       go true p q = (refl, sym q)
       go false p q = absurd (omega arith)
 
 -- the characters' numbers
-pub length-values : (l : List ℕ) → length (values_of l) ≡ length l
+pub length_values : (l : List ℕ) → length (values_of l) ≡ length l
 unfolding values_of
-length-values [] = refl
-length-values (c ∷ cs) = ap suc (length-values cs)
+length_values [] = refl
+length_values (c ∷ cs) = ap suc (length_values cs)
 
-pub value_of : (l : List ℕ) (i : ℕ) → i < length l → get_or (values_of l) i 0 ≡ digitValue (get_or l i 0)
+pub value_of : (l : List ℕ) (i : ℕ) → i < length l → get_or (values_of l) i 0 ≡ digit_value (get_or l i 0)
 unfolding values_of
 value_of [] i h = absurd (omega arith)
 value_of (c ∷ cs) zero h = refl
 value_of (c ∷ cs) (suc i) h = value_of cs i (omega arith)
 
-pub values-small : (l : List ℕ) → allDigits l ≡ true → (i : ℕ) → i < length (values_of l) → get_or (values_of l) i 0 < 16
-values-small l a i h =
-    let here : i < length l = omega (arith, length-values l) in
-    omega (arith, value_of l i here, digits-at l i a here)
+pub values_small : (l : List ℕ) → all_digits l ≡ true → (i : ℕ) → i < length (values_of l) → get_or (values_of l) i 0 < 16
+values_small l a i h =
+    let here : i < length l = omega (arith, length_values l) in
+    omega (arith, value_of l i here, digits_at l i a here)
 
 -- a list that has the numbers before a place
 abbrev pub Valued : List ℕ → List ℕ → ℕ → Type 0
 Valued l v n = (length v ≡ length l) × (take n v ≡ take n (values_of l))
 
-pub valued-more : (l v : List ℕ) (n d : ℕ) → n < length l → d ≡ digitValue (get_or l n 0) → Valued l v n → Valued l (set v n d) (n + 1)
-valued-more l v n d h e p =
-    let long = length-values l in
+pub valued_more : (l v : List ℕ) (n d : ℕ) → n < length l → d ≡ digit_value (get_or l n 0) → Valued l v n → Valued l (set v n d) (n + 1)
+valued_more l v n d h e p =
+    let long = length_values l in
     let last : get_or (values_of l) n 0 ≡ d = value_of l n h ∙ sym e in
     let more : take (suc n) (values_of l) ≡ take n (values_of l) ++ (get_or (values_of l) n 0 ∷ []) = take-suc (values_of l) n 0 (omega arith) in
     let put : take (suc n) (set v n d) ≡ take n v ++ (d ∷ []) = take-suc-set v n d (omega arith) in
     (length-set v n d ∙ p.0, rw add-one (put ∙ rw (more, last) (ap (λ (z : List ℕ). z ++ (d ∷ [])) p.1)))
 
-pub valued-all : (l v : List ℕ) (n : ℕ) → n ≡ length l → Valued l v n → v ≡ values_of l
-valued-all l v n e p = sym (take_all n v (omega arith)) ∙ p.1 ∙ take_all n (values_of l) (omega (arith, length-values l))
+pub valued_all : (l v : List ℕ) (n : ℕ) → n ≡ length l → Valued l v n → v ≡ values_of l
+valued_all l v n e p = sym (take_all n v (omega arith)) ∙ p.1 ∙ take_all n (values_of l) (omega (arith, length_values l))

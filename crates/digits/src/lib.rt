@@ -1,12 +1,12 @@
 // A line's digits: their numbers, the first character that is none, and their sum. Nothing here knows a kind.
 // Inner functions: what they require, `quick`, `faults`, `six` and `turns` show.
 ghost use Rattle.std.specs.Prelude.{◌≡◌, ◌%◌, length};
-ghost use Rattle.meaning.specs.Frames.{digitValue, strayAt};
-ghost use Rattle.digits.specs.Digits.{letterValue, weigh, sum_of, values_of};
+ghost use Rattle.meaning.specs.Frames.{digit_value, stray_at};
+ghost use Rattle.digits.specs.Digits.{letter_value, weigh, sum_of, values_of};
 
 // The number of a letter A to F, 16 for any other character.
 fn letter(c: u8) -> u8
-    ensures { result ≡ letterValue c }
+    ensures { result ≡ letter_value c }
 {
     match c {
         b'A'..=b'F' => c - 55,
@@ -17,7 +17,7 @@ fn letter(c: u8) -> u8
 // The number of a hexadecimal digit, 16 where the character is none: "a character is not 0 to 9 or A to F".
 // Each match has a single range, so that it is compiled without a branch.
 fn digit_value(c: u8) -> u8
-    ensures { result ≡ digitValue c }
+    ensures { result ≡ digit_value c }
 {
     let other = letter(c);
     match c {
@@ -80,7 +80,7 @@ pub fn values(s: &[u8], v: &mut [u8]) -> u32
 
 // The place of the first character that is no digit, the line's length where all are. Only a line that is refused is asked for it.
 pub fn stray_at(s: &[u8]) -> usize
-    ensures { result ≡ strayAt s.now }
+    ensures { result ≡ stray_at s.now }
 {
     let mut k: usize = 0;
     while k < s.len() {

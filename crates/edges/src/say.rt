@@ -1,6 +1,6 @@
 // What a case prints: its name, then what the library answered.
 ghost use Rattle.std.specs.Prelude.{◌≤◌, ◌<◌};
-ghost use Rattle.meaning.specs.Table.{nodesMost};
+ghost use Rattle.meaning.specs.Table.{nodes_most};
 
 use meaning::{Line, Reply};
 
@@ -34,7 +34,7 @@ pub(crate) fn digest(t: &[u32]) -> u64 {
 
 // How many nodes have a held number to print: those below the count, of which a table has 16 at most.
 fn nodes(t: &[u32]) -> usize
-    ensures { result ≤ nodesMost }
+    ensures { result ≤ nodes_most }
 {
     let n = word(t, layout::COUNT_AT) as usize;
     if n < layout::NODES_MOST {
@@ -46,7 +46,7 @@ fn nodes(t: &[u32]) -> usize
 
 // A node's held number, 0 where the length is no table's.
 fn held_by(t: &[u32], p: usize) -> u32
-    requires { p < nodesMost }
+    requires { p < nodes_most }
 {
     if !layout::is_long(t) {
         return 0;

@@ -1,7 +1,7 @@
 // What C reads of a table: one scan for soundness a call, and 0 where there is none. The definitions are those of specs/Entries.antt.
 ghost use Rattle.std.specs.Prelude.{◌≡◌, ◌+◌, ◌≤◌, length, get_or};
-ghost use Rattle.meaning.specs.Table.{nodesMost, part, count, Sound};
-ghost use Rattle.entries.specs.Entries.{present, summaryEntry, ackEntry, columnEntry, heldNumber, recordWord, markEntry};
+ghost use Rattle.meaning.specs.Table.{nodes_most, part, count, Sound};
+ghost use Rattle.entries.specs.Entries.{present, summary_entry, ack_entry, column_entry, held_number, record_word, mark_entry};
 
 use layout::RECORD_WORDS;
 
@@ -17,7 +17,7 @@ fn is_present(t: &[u32], p: usize) -> bool
 
 // The entry of the row that begins at a place, 0 at or beyond n.
 fn entry(t: &[u32], at: usize, o: usize) -> u32
-    requires { Sound t.now × (at + nodesMost ≤ length t.now) }
+    requires { Sound t.now × (at + nodes_most ≤ length t.now) }
     ensures { result ≡ get_or (part at (count t.now) t.now) o 0 }
 {
     if o < layout::count_of(t) as usize {
@@ -29,7 +29,7 @@ fn entry(t: &[u32], at: usize, o: usize) -> u32
 
 // A node's summary entry for an origin, on columns that of its own column.
 pub fn summary_of(table: &[u32], node: u8, origin: u8) -> u32
-    ensures { result ≡ summaryEntry table.now node origin }
+    ensures { result ≡ summary_entry table.now node origin }
 {
     let p = node as usize;
     if !is_present(table, p) {
@@ -40,7 +40,7 @@ pub fn summary_of(table: &[u32], node: u8, origin: u8) -> u32
 
 // What a node knows that another has acknowledged, 0 on columns.
 pub fn ack_of(table: &[u32], node: u8, of: u8) -> u32
-    ensures { result ≡ ackEntry table.now node of }
+    ensures { result ≡ ack_entry table.now node of }
 {
     let p = node as usize;
     if !is_present(table, p) {
@@ -54,7 +54,7 @@ pub fn ack_of(table: &[u32], node: u8, of: u8) -> u32
 
 // What a node knows that the node of a column has of an origin, 0 on vectors.
 pub fn column_of(table: &[u32], node: u8, column: u8, origin: u8) -> u32
-    ensures { result ≡ columnEntry table.now node column origin }
+    ensures { result ≡ column_entry table.now node column origin }
 {
     let p = node as usize;
     let q = column as usize;
@@ -72,7 +72,7 @@ pub fn column_of(table: &[u32], node: u8, column: u8, origin: u8) -> u32
 
 // The number of records that a node holds.
 pub fn held_number(table: &[u32], node: u8) -> u32
-    ensures { result ≡ heldNumber table.now node }
+    ensures { result ≡ held_number table.now node }
 {
     let p = node as usize;
     if !is_present(table, p) {
@@ -83,7 +83,7 @@ pub fn held_number(table: &[u32], node: u8) -> u32
 
 // One word of a held record, oldest first: origin, timestamp, block, verdict.
 pub fn record_word(table: &[u32], node: u8, index: u32, word: u32) -> u32
-    ensures { result ≡ recordWord table.now node index word }
+    ensures { result ≡ record_word table.now node index word }
 {
     let p = node as usize;
     if !is_present(table, p) {
@@ -100,7 +100,7 @@ pub fn record_word(table: &[u32], node: u8, index: u32, word: u32) -> u32
 
 // A node's mark: it has delivered every record of a timestamp up to this.
 pub fn mark_of(table: &[u32], node: u8) -> u32
-    ensures { result ≡ markEntry table.now node }
+    ensures { result ≡ mark_entry table.now node }
 {
     let p = node as usize;
     if !is_present(table, p) {

@@ -1,7 +1,7 @@
 // Why a line is refused, and where, each clause asked in the order of documents 01 and 02 (T-01). The other way than that of `quick`.
 ghost use Rattle.std.specs.Prelude.{◌≡◌, true, not, [], ◌∷◌, ◌%◌, ◌<◌, length};
-ghost use Rattle.meaning.specs.Refusals.{testAt};
-ghost use Rattle.meaning.specs.Frames.{allDigits, faultOf, lineFault};
+ghost use Rattle.meaning.specs.Refusals.{test_at};
+ghost use Rattle.meaning.specs.Frames.{all_digits, fault_of, line_fault};
 
 use digits::{stray_at, total};
 use meaning::Fault;
@@ -38,7 +38,7 @@ const START_AT: usize = 0;
 
 // The refusal of a line that has its kind's length, told the place of its check byte; two zeros for none.
 fn late(above: bool, sums: bool, wrong: bool, check: usize) -> Fault
-    ensures { result ≡ faultOf (testAt 20 22 above ∷ testAt 13 check (not sums) ∷ testAt 15 0 wrong ∷ []) }
+    ensures { result ≡ fault_of (test_at 20 22 above ∷ test_at 13 check (not sums) ∷ test_at 15 0 wrong ∷ []) }
 {
     if above {
         return Fault {
@@ -66,8 +66,8 @@ fn late(above: bool, sums: bool, wrong: bool, check: usize) -> Fault
 
 // The refusal of a line of digits, some and even in number.
 fn spelled(s: &[u8]) -> Fault
-    requires { (allDigits s.now ≡ true) × (length s.now % 2 ≡ 0) × (0 < length s.now) }
-    ensures { result ≡ lineFault s.now }
+    requires { (all_digits s.now ≡ true) × (length s.now % 2 ≡ 0) × (0 < length s.now) }
+    ensures { result ≡ line_fault s.now }
 {
     let kind = byte(s, 0);
     let due = kinds::length_of(kind);
@@ -99,7 +99,7 @@ fn spelled(s: &[u8]) -> Fault
 
 // The refusal of any line, the first that applies, with its place; two zeros for none.
 pub fn refusal(s: &[u8]) -> Fault
-    ensures { result ≡ lineFault s.now }
+    ensures { result ≡ line_fault s.now }
 {
     let long = s.len();
     let stray = stray_at(s);

@@ -1,17 +1,17 @@
 -- Laws of what a frame's parts leave: words or characters put one after the other, and the check.
 use Rattle.std.proofs.Common.{◌≡◌, ℕ, ◌+◌, ◌-◌, ◌*◌, ◌/◌, ◌%◌, ◌<◌, ◌≤◌, List, [], ◌∷◌, ◌++◌, length, get_or, take, drop, set, sym, refl, ap, ◌∙◌, arith, take-append-drop, length-take-le, take_at}
 use Rattle.meaning.specs.Table.{place, part}
-use Rattle.meaning.specs.Frames.{spelled, highFirst, total, check, sealed}
+use Rattle.meaning.specs.Frames.{spelled, high_first, total, check, sealed}
 use Rattle.meaning.proofs.PlaceLaws.{place-part, set-place, place_none}
-use Rattle.meaning.proofs.FrameLaws.{total-append, total-below, spelled-append, length-spelled}
+use Rattle.meaning.proofs.FrameLaws.{total-append, total_below, spelled-append, length-spelled}
 use Rattle.spelling.proofs.SpellLaws.{set_next, take_more}
 
 -- the entries put so far
-pub put-none : (t l : List ℕ) → t ≡ place 0 (take 0 l) t
-put-none t l = sym (place_none 0 t)
+pub put_none : (t l : List ℕ) → t ≡ place 0 (take 0 l) t
+put_none t l = sym (place_none 0 t)
 
-pub put-more : (t₀ t l : List ℕ) (k : ℕ) → k < length l → k < length t₀ → t ≡ place 0 (take k l) t₀ → set t k (get_or l k 0) ≡ place 0 (take (k + 1) l) t₀
-put-more t₀ t l k h g p =
+pub put_more : (t₀ t l : List ℕ) (k : ℕ) → k < length l → k < length t₀ → t ≡ place 0 (take k l) t₀ → set t k (get_or l k 0) ≡ place 0 (take (k + 1) l) t₀
+put_more t₀ t l k h g p =
     let long = length-take-le k l (omega arith) in
     set_next t₀ t (take k l) 0 k (get_or l k 0) (omega arith) g p ∙ ap (λ (r : List ℕ). place 0 r t₀) (sym (take_more l k h))
 
@@ -33,10 +33,10 @@ line_of out₀ out b d n k e h p q =
     q ∙ ap (λ (l : List ℕ). place 0 (l ++ (10 ∷ [])) out₀) (ap (λ (l : List ℕ). take k l) p ∙ take-spelled b n k e h)
 
 -- a word's bytes
-pub split-word : (t : List ℕ) (at x : ℕ) → at + 4 ≤ length t → x < 4294967296
-    → set (set (set (set t at (x / 16777216)) (at + 1) (x / 65536 % 256)) (at + 2) (x / 256 % 256)) (at + 3) (x % 256) ≡ place at (highFirst 4 x) t
-unfolding highFirst
-split-word t at x h w =
+pub split_word : (t : List ℕ) (at x : ℕ) → at + 4 ≤ length t → x < 4294967296
+    → set (set (set (set t at (x / 16777216)) (at + 1) (x / 65536 % 256)) (at + 2) (x / 256 % 256)) (at + 3) (x % 256) ≡ place at (high_first 4 x) t
+unfolding high_first
+split_word t at x h w =
     let y₀ = x / 256 / 256 / 256 % 256 in
     let y₁ = x / 256 / 256 % 256 in
     let y₂ = x / 256 % 256 in
@@ -53,9 +53,9 @@ pub total-none : (b : List ℕ) → 0 ≡ total (take 0 b)
 unfolding total
 total-none b = refl
 
-pub total-more : (b : List ℕ) (k sum next : ℕ) → k < length b → sum ≡ total (take k b) → next ≡ (sum + get_or b k 0) % 256 → next ≡ total (take (k + 1) b)
+pub total_more : (b : List ℕ) (k sum next : ℕ) → k < length b → sum ≡ total (take k b) → next ≡ (sum + get_or b k 0) % 256 → next ≡ total (take (k + 1) b)
 unfolding total
-total-more b k sum next h p q =
+total_more b k sum next h p q =
     let all = total-append (take k b) (get_or b k 0 ∷ []) in
     let last : next ≡ total (take k b ++ (get_or b k 0 ∷ [])) = omega arith in
     last ∙ ap total (sym (take_more b k h))
@@ -63,12 +63,12 @@ total-more b k sum next h p q =
 negated : (r sum : ℕ) → r < 256 → sum < 256 → (r + sum) % 256 ≡ 0 → r ≡ (256 - sum) % 256
 negated r sum h g p = omega arith
 
-pub seal-last : (b : List ℕ) (n k sum r : ℕ) → n < length b → k ≡ n → sum ≡ total (take k b) → r < 256 → (r + sum) % 256 ≡ 0
+pub seal_last : (b : List ℕ) (n k sum r : ℕ) → n < length b → k ≡ n → sum ≡ total (take k b) → r < 256 → (r + sum) % 256 ≡ 0
     → set b n r ≡ place 0 (sealed (take n b)) b
 unfolding sealed check part
-seal-last b n k sum r h e p w q =
+seal_last b n k sum r h e p w q =
     let sums : sum ≡ total (take n b) = p ∙ ap (λ (m : ℕ). total (take m b)) e in
-    let low = total-below (take n b) in
+    let low = total_below (take n b) in
     let c : r ≡ (256 - total (take n b)) % 256 = negated r (total (take n b)) w low (ap (λ (m : ℕ). (r + m) % 256) (sym sums) ∙ q) in
     let long = length-take-le n b (omega arith) in
     rw c (set_next b b (take n b) 0 n ((256 - total (take n b)) % 256) (omega arith) h (sym (place-part 0 n b (omega arith))))

@@ -2,12 +2,12 @@
 // Inner functions: what they require, the frames' code shows.
 ghost use Rattle.std.specs.Prelude.{◌≡◌, ◌+◌, ◌*◌, ◌<◌, ◌≤◌, [], ◌∷◌, ◌++◌, length, take};
 ghost use Rattle.meaning.specs.Table.{place};
-ghost use Rattle.meaning.specs.Frames.{spelled, highFirst, sealed};
+ghost use Rattle.meaning.specs.Frames.{spelled, high_first, sealed};
 
 // A word's four bytes at their place: "Numbers are high byte first."
 pub fn split(b: &mut [u8], at: usize, x: u32)
     requires { at + 4 ≤ length b.old }
-    ensures { b.new ≡ place at (highFirst 4 x) b.old }
+    ensures { b.new ≡ place at (high_first 4 x) b.old }
 {
     b[at] = (x / 16777216) as u8;
     b[at + 1] = (x / 65536 % 256) as u8;

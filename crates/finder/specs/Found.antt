@@ -9,7 +9,7 @@ unfoldable pub found_at : List ℕ → ℕ → Found
 found_at s at = cond (leb (length s) at) Over (cond (unended s at) Unended (Line (at + length (line_at s at))))
 
 -- Document 01's values of each answer: the refusal (0 for none), then the place of the LF that ends a line
-abbrev pub foundValues : Found → List ℕ
-foundValues (Line end) = 0 ∷ end ∷ []
-foundValues Unended = 14 ∷ []
-foundValues Over = 0 ∷ []
+abbrev pub found_values : Found → List ℕ
+found_values (Line end) = 0 ∷ end ∷ []
+found_values Unended = 14 ∷ []
+found_values Over = 0 ∷ []

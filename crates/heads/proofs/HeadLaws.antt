@@ -7,38 +7,38 @@ use native.Mathlib.Omega.{arith}
 use lib.ListN.{length, get_or, take}
 use lib.Seq.{take_all}
 use borrow.Author.Tests.{eqb-true, eq-eqb}
-use Rattle.meaning.specs.Frames.{lineRefusal}
+use Rattle.meaning.specs.Frames.{line_refusal}
 use Rattle.meaning.proofs.FrameLaws.{Good, good, clear}
 use Rattle.heads.specs.Heads.{accepted}
 
 -- whether a line is accepted
 module _ (l : List ℕ) where
-  pub accepted-good : accepted l ≡ true → Good l
+  pub accepted_good : accepted l ≡ true → Good l
   unfolding accepted
-  accepted-good h = good l (eqb-true (lineRefusal l) 0 h)
+  accepted_good h = good l (eqb-true (line_refusal l) 0 h)
 
-  pub accepted-is : Good l → accepted l ≡ true
+  pub accepted_is : Good l → accepted l ≡ true
   unfolding accepted
-  accepted-is g = eq-eqb (lineRefusal l) 0 (clear l g)
+  accepted_is g = eq-eqb (line_refusal l) 0 (clear l g)
 
-  pub accepted-not : (Good l → ⊥) → accepted l ≡ false
-  accepted-not h = go (accepted l) refl
+  pub accepted_not : (Good l → ⊥) → accepted l ≡ false
+  accepted_not h = go (accepted l) refl
     where
       go : (b : Bool) → accepted l ≡ b → b ≡ false
-      go true e = absurd (h (accepted-good e))
+      go true e = absurd (h (accepted_good e))
       go false e = refl
 
   -- the same as its refusal
-  pub accepted-clear : accepted l ≡ true → lineRefusal l ≡ 0
-  accepted-clear h = clear l (accepted-good h)
+  pub accepted_clear : accepted l ≡ true → line_refusal l ≡ 0
+  accepted_clear h = clear l (accepted_good h)
 
-  pub accepted-refused : accepted l ≡ false → lineRefusal l ≡ 0 → ⊥
-  accepted-refused h z = true≢false (sym (accepted-is (good l z)) ∙ h)
+  pub accepted_refused : accepted l ≡ false → line_refusal l ≡ 0 → ⊥
+  accepted_refused h z = true≢false (sym (accepted_is (good l z)) ∙ h)
 
   -- a test that tells it
-  pub accepted-by : (b : Bool) → (b ≡ true → Good l) → (Good l → b ≡ true) → b ≡ accepted l
-  accepted-by true p q = sym (accepted-is (p refl))
-  accepted-by false p q = sym (accepted-not (λ g. true≢false (sym (q g))))
+  pub accepted_by : (b : Bool) → (b ≡ true → Good l) → (Good l → b ≡ true) → b ≡ accepted l
+  accepted_by true p q = sym (accepted_is (p refl))
+  accepted_by false p q = sym (accepted_not (λ g. true≢false (sym (q g))))
 
 -- a part that is the whole line
 pub whole_part : (l : List ℕ) (n : ℕ) → length l ≤ n → take n l ≡ l
@@ -48,12 +48,12 @@ whole_part l n h = take_all n l h
 abbrev pub six : ℕ → ℕ → ℕ → ℕ → ℕ → ℕ → List ℕ
 six a b c d e f = a ∷ b ∷ c ∷ d ∷ e ∷ f ∷ []
 
-pub six-of : (l : List ℕ) → length l ≡ 6 → six (get_or l 0 0) (get_or l 1 0) (get_or l 2 0) (get_or l 3 0) (get_or l 4 0) (get_or l 5 0) ≡ l
-six-of (a ∷ (b ∷ (c ∷ (d ∷ (e ∷ (f ∷ [])))))) h = refl
-six-of [] h = absurd (omega arith)
-six-of (a ∷ []) h = absurd (omega arith)
-six-of (a ∷ (b ∷ [])) h = absurd (omega arith)
-six-of (a ∷ (b ∷ (c ∷ []))) h = absurd (omega arith)
-six-of (a ∷ (b ∷ (c ∷ (d ∷ [])))) h = absurd (omega arith)
-six-of (a ∷ (b ∷ (c ∷ (d ∷ (e ∷ []))))) h = absurd (omega arith)
-six-of (a ∷ (b ∷ (c ∷ (d ∷ (e ∷ (f ∷ (g ∷ l))))))) h = absurd (omega arith)
+pub six_of : (l : List ℕ) → length l ≡ 6 → six (get_or l 0 0) (get_or l 1 0) (get_or l 2 0) (get_or l 3 0) (get_or l 4 0) (get_or l 5 0) ≡ l
+six_of (a ∷ (b ∷ (c ∷ (d ∷ (e ∷ (f ∷ [])))))) h = refl
+six_of [] h = absurd (omega arith)
+six_of (a ∷ []) h = absurd (omega arith)
+six_of (a ∷ (b ∷ [])) h = absurd (omega arith)
+six_of (a ∷ (b ∷ (c ∷ []))) h = absurd (omega arith)
+six_of (a ∷ (b ∷ (c ∷ (d ∷ [])))) h = absurd (omega arith)
+six_of (a ∷ (b ∷ (c ∷ (d ∷ (e ∷ []))))) h = absurd (omega arith)
+six_of (a ∷ (b ∷ (c ∷ (d ∷ (e ∷ (f ∷ (g ∷ l))))))) h = absurd (omega arith)

@@ -1,8 +1,8 @@
 -- Two replies that a public contract of this crate allows are equal.
 use mathlib.Core.Path.{sym, ◌∙◌}
 use Rattle.meaning.proofs.OneReply.{OneResult}
-use Rattle.heads.proofs.short_line.Kinds as short-line-kinds
-use Rattle.heads.proofs.short_line.Reads as short-line
+use Rattle.heads.proofs.short_line.Kinds as short_line_kinds
+use Rattle.heads.proofs.short_line.Reads as short_line_lem
 
-pub one-short-line : OneResult 0 short-line-kinds.ps short-line-kinds.r short-line.Post
-one-short-line κs a x y s s' p q = p ∙ sym q
+pub one_short_line : OneResult 0 short_line_kinds.ps short_line_kinds.r short_line_lem.Post
+one_short_line κs a x y s s' p q = p ∙ sym q

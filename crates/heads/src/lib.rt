@@ -1,16 +1,16 @@
 // A line of six characters, which can only be a start, a purge or a delivery: what it holds, sure in both directions. Beside it stand the laws of any
 // line that is accepted, by which `quick` tells the longer ones. Document 01, "Frames and journals"; document 02, T-04.
 ghost use Rattle.std.specs.Prelude.{◌≡◌, [], ◌∷◌, ◌≤◌, ◌<◌};
-ghost use Rattle.meaning.specs.Frames.{digitValue, digit};
-ghost use Rattle.digits.specs.Digits.{letterValue};
-ghost use Rattle.heads.specs.Heads.{isCheck, mayHold, short_of};
+ghost use Rattle.meaning.specs.Frames.{digit_value, digit};
+ghost use Rattle.digits.specs.Digits.{letter_value};
+ghost use Rattle.heads.specs.Heads.{is_check, may_hold, short_of};
 
 // What stands for a refused line of six characters: above 256 times any byte and a byte more.
 pub const NO_LINE: u32 = 65536;
 
 // The number of a letter A to F, 16 for any other character; in a word.
 fn wide_letter(c: u32) -> u32
-    ensures { result ≡ letterValue c }
+    ensures { result ≡ letter_value c }
 {
     match c {
         65..=70 => c - 55,
@@ -20,7 +20,7 @@ fn wide_letter(c: u32) -> u32
 
 // The number of a hexadecimal digit, 16 where the character is none; in a word, which is quicker where two are read one by one.
 fn wide_value(c: u32) -> u32
-    ensures { result ≡ digitValue c }
+    ensures { result ≡ digit_value c }
 {
     let other = wide_letter(c);
     match c {
@@ -45,7 +45,7 @@ fn digit_of(v: u32) -> u32
 // written is quicker than a digit read.
 fn is_check(sum: u32, high: u8, low: u8) -> bool
     requires { sum ≤ 512 }
-    ensures { result ≡ isCheck sum high low }
+    ensures { result ≡ is_check sum high low }
 {
     let last = (512 - sum) % 256;
     if high as u32 != digit_of(last / 16) {
@@ -56,7 +56,7 @@ fn is_check(sum: u32, high: u8, low: u8) -> bool
 
 // Whether a start, a purge or a delivery, told by its kind's second character, may have this field: a start's "n is 2 to 16", that of the others is any.
 fn may_hold(kind: u8, n: u32) -> bool
-    ensures { result ≡ mayHold kind n }
+    ensures { result ≡ may_hold kind n }
 {
     if kind == b'3' {
         return true;

@@ -6,10 +6,10 @@ use Rattle.input.specs.declared.Input.TheVariants.{More, End, Full, Failed}
 
 -- So many bytes are lent, the first `at` of them have come, and one more read answered: 0 is the end and nothing else is; a count is so many bytes
 -- more, up to the last that is lent; -1 is a failure, unless a signal interrupted the read before it moved a byte.
-unfoldable pub readTo : ℕ → ℕ → Bool → ℤ → Input
-readTo lent at interrupted (pos zero) = End at
-readTo lent at interrupted (pos (suc k)) = cond (ltb (at + suc k) lent) (More (at + suc k)) Full
-readTo lent at interrupted (negsuc k) = cond interrupted (More at) Failed
+unfoldable pub read_to : ℕ → ℕ → Bool → ℤ → Input
+read_to lent at interrupted (pos zero) = End at
+read_to lent at interrupted (pos (suc k)) = cond (ltb (at + suc k) lent) (More (at + suc k)) Full
+read_to lent at interrupted (negsuc k) = cond interrupted (More at) Failed
 
 -- Bytes that have come are within the lent ones, and leave room unless these are full.
 abbrev pub Within : ℕ → Input → Type 0

@@ -1,7 +1,7 @@
 // An input read into lent bytes up to its end, where a failed read is told from the end. The program's journal is read so: half of one must not pass
 // for a whole one.
 ghost use Rattle.std.specs.Prelude.{◌≡◌, ◌<◌, length, take};
-ghost use Rattle.input.specs.Reading.{readTo, Within};
+ghost use Rattle.input.specs.Reading.{read_to, Within};
 
 // How far an input has been read: so many bytes have come and more may follow, it ended after so many, it filled the lent bytes before it
 // ended, or a read failed, and errno says why.
@@ -15,7 +15,7 @@ pub enum Input {
 
 // What the answer of a read makes of it. Bytes beyond the lent ones are never counted.
 fn read_to(lent: usize, at: usize, interrupted: bool, got: isize) -> Input
-    ensures { result ≡ readTo lent at interrupted got }
+    ensures { result ≡ read_to lent at interrupted got }
 {
     if got < 0 {
         if interrupted {

@@ -13,72 +13,72 @@ use Rattle.meaning.specs.declared.Line.{Line as Said}
 use Rattle.meaning.specs.declared.Line.TheVariants.{Begin, Act, Refused}
 use Rattle.meaning.specs.declared.Next.{Next}
 use Rattle.meaning.specs.declared.Next.TheVariants.{Begin as BeginAt, Act as ActAt, Refused as RefusedAt, End}
-use Rattle.meaning.specs.Frames.{readLine}
-use Rattle.meaning.specs.Journals.{unlessLF, untilLF, hasLF, unended, line_at, placeAfter, in_turn, nextIn}
-use Rattle.meaning.proofs.JournalLaws.{line-ended}
+use Rattle.meaning.specs.Frames.{read_line}
+use Rattle.meaning.specs.Journals.{unless_lf, until_lf, has_lf, unended, line_at, place_after, in_turn, next_in}
+use Rattle.meaning.proofs.JournalLaws.{line_ended}
 use Rattle.finder.specs.declared.Found.TheVariants.{Line, Unended, Over}
 use Rattle.finder.specs.Found.{found_at}
-use Rattle.finder.proofs.Finding.{Ended, never, ended-has, ended-facts, line-facts, unended-facts, over-facts}
+use Rattle.finder.proofs.Finding.{Ended, never, ended-has, ended_facts, line_facts, unended_facts, over_facts}
 
 -- what the reader finds, by what the finder found
-pub next-over : (first : Bool) (s : List ℕ) (at line : ℕ) → found_at s at ≡ Over → End ≡ nextIn first s at line
-unfolding nextIn
-next-over first s at line e = rw (over-facts s at e)
+pub next_over : (first : Bool) (s : List ℕ) (at line : ℕ) → found_at s at ≡ Over → End ≡ next_in first s at line
+unfolding next_in
+next_over first s at line e = rw (over_facts s at e)
 
-pub next-unended : (first : Bool) (s : List ℕ) (at line : ℕ) → found_at s at ≡ Unended → RefusedAt 14 (length s - at) ≡ nextIn first s at line
-unfolding nextIn
-next-unended first s at line e = rw ((unended-facts s at e).0, (unended-facts s at e).1) (ap (RefusedAt 14) (sym (length-drop at s)))
+pub next_unended : (first : Bool) (s : List ℕ) (at line : ℕ) → found_at s at ≡ Unended → RefusedAt 14 (length s - at) ≡ next_in first s at line
+unfolding next_in
+next_unended first s at line e = rw ((unended_facts s at e).0, (unended_facts s at e).1) (ap (RefusedAt 14) (sym (length-drop at s)))
 
-pub next-line : (first : Bool) (s : List ℕ) (at end line : ℕ) → found_at s at ≡ Line end
-    → in_turn first (end + 1) (readLine line (take (end - at) (drop at s))) ≡ nextIn first s at line
-unfolding nextIn
-next-line first s at end line e =
-    let x = line-facts s at end e in
+pub next_line : (first : Bool) (s : List ℕ) (at end line : ℕ) → found_at s at ≡ Line end
+    → in_turn first (end + 1) (read_line line (take (end - at) (drop at s))) ≡ next_in first s at line
+unfolding next_in
+next_line first s at end line e =
+    let x = line_facts s at end e in
     rw (x.left, x.has, x.part, x.after)
 
 -- a refused line stands before the journal's end, and only the end is the end
-turn-goes : (first : Bool) (k : ℕ) (l : Said) → in_turn first k l ≡ End → ◌≡◌ {A = ℕ} 0 1
-turn-goes true k (Begin n) e = cc
-turn-goes true k (Act x) e = cc
-turn-goes true k (Refused j p) e = cc
-turn-goes false k (Begin n) e = cc
-turn-goes false k (Act x) e = cc
-turn-goes false k (Refused j p) e = cc
+turn_goes : (first : Bool) (k : ℕ) (l : Said) → in_turn first k l ≡ End → ◌≡◌ {A = ℕ} 0 1
+turn_goes true k (Begin n) e = cc
+turn_goes true k (Act x) e = cc
+turn_goes true k (Refused j p) e = cc
+turn_goes false k (Begin n) e = cc
+turn_goes false k (Act x) e = cc
+turn_goes false k (Refused j p) e = cc
 
-pub refused-inside : (first : Bool) (s : List ℕ) (at line : ℕ) {k p : ℕ} → nextIn first s at line ≡ RefusedAt k p → leb (length s) at ≡ false
-unfolding nextIn
-refused-inside first s at line {k} {p} e = go (leb (length s) at) refl e
+pub refused_inside : (first : Bool) (s : List ℕ) (at line : ℕ) {k p : ℕ} → next_in first s at line ≡ RefusedAt k p → leb (length s) at ≡ false
+unfolding next_in
+refused_inside first s at line {k} {p} e = go (leb (length s) at) refl e
   where
     go : (a : Bool) → leb (length s) at ≡ a
-        → cond a End (cond (unended s at) (RefusedAt 14 (length (drop at s))) (in_turn first (placeAfter s at) (readLine line (line_at s at)))) ≡ RefusedAt k p
+        → cond a End (cond (unended s at) (RefusedAt 14 (length (drop at s))) (in_turn first (place_after s at) (read_line line (line_at s at)))) ≡ RefusedAt k p
         → leb (length s) at ≡ false
     go true q r = never (cc)
     go false q r = q
 
-pub end-over : (first : Bool) (s : List ℕ) (at line : ℕ) → nextIn first s at line ≡ End → leb (length s) at ≡ true
-unfolding nextIn
-end-over first s at line e = go (leb (length s) at) (unended s at) refl e
+pub end_over : (first : Bool) (s : List ℕ) (at line : ℕ) → next_in first s at line ≡ End → leb (length s) at ≡ true
+unfolding next_in
+end_over first s at line e = go (leb (length s) at) (unended s at) refl e
   where
     go : (a b : Bool) → leb (length s) at ≡ a
-        → cond a End (cond b (RefusedAt 14 (length (drop at s))) (in_turn first (placeAfter s at) (readLine line (line_at s at)))) ≡ End
+        → cond a End (cond b (RefusedAt 14 (length (drop at s))) (in_turn first (place_after s at) (read_line line (line_at s at)))) ≡ End
         → leb (length s) at ≡ true
     go true b p r = p
     go false true p r = never (cc)
-    go false false p r = never (turn-goes first (placeAfter s at) (readLine line (line_at s at)) r)
+    go false false p r = never (turn_goes first (place_after s at) (read_line line (line_at s at)) r)
 
 -- a refused line is refused in any turn
-pub turn-refused : (first : Bool) (k j p : ℕ) → RefusedAt j p ≡ in_turn first k (Refused j p)
-turn-refused true k j p = refl
-turn-refused false k j p = refl
+pub turn_refused : (first : Bool) (k j p : ℕ) → RefusedAt j p ≡ in_turn first k (Refused j p)
+turn_refused true k j p = refl
+turn_refused false k j p = refl
 
 -- the reader goes on to the place after the line, if it does
-abbrev pub onTo : ℕ → Next → Bool
-onTo k (BeginAt n next) = eqb next k
-onTo k (ActAt x next) = eqb next k
-onTo k (RefusedAt j p) = false
-onTo k End = false
+abbrev pub on_to : ℕ → Next → Bool
+on_to k (BeginAt n next) = eqb next k
+on_to k (ActAt x next) = eqb next k
+on_to k (RefusedAt j p) = false
+on_to k End = false
 
-turn_on : (first : Bool) (k to : ℕ) (l : Said) → onTo to (in_turn first k l) ≡ true → k ≡ to
+turn_on : (first : Bool) (k to : ℕ) (l : Said) → on_to to (in_turn first k l) ≡ true → k ≡ to
 turn_on true k to (Begin n) e = eqb-true k to e
 turn_on true k to (Act x) e = never (cc)
 turn_on true k to (Refused j p) e = never (cc)
@@ -94,37 +94,37 @@ pub record Passed (s : List ℕ) (at next : ℕ) : Type 0 where
   pub left : leb (length s) at ≡ false
   pub lf : get_or s (next - 1) 0 ≡ 10
 
-until-lf : (l : List ℕ) → hasLF l ≡ true → get_or l (length (untilLF l)) 0 ≡ 10
-unfolding untilLF hasLF
-until-lf [] e = never (cc)
-until-lf (c ∷ cs) e = go (eqb c 10) refl e (until-lf cs)
+until_lf_lem : (l : List ℕ) → has_lf l ≡ true → get_or l (length (until_lf l)) 0 ≡ 10
+unfolding until_lf has_lf
+until_lf_lem [] e = never (cc)
+until_lf_lem (c ∷ cs) e = go (eqb c 10) refl e (until_lf_lem cs)
   where
-    go : (b : Bool) → eqb c 10 ≡ b → (b || hasLF cs) ≡ true → (hasLF cs ≡ true → get_or cs (length (untilLF cs)) 0 ≡ 10)
-        → get_or (c ∷ cs) (length (unlessLF b c (untilLF cs))) 0 ≡ 10
+    go : (b : Bool) → eqb c 10 ≡ b → (b || has_lf cs) ≡ true → (has_lf cs ≡ true → get_or cs (length (until_lf cs)) 0 ≡ 10)
+        → get_or (c ∷ cs) (length (unless_lf b c (until_lf cs))) 0 ≡ 10
     go true p q r = eqb-true c 10 p
     go false p q r = r q
 
 -- the byte at the end of a line is its LF
-ended-lf : (s : List ℕ) (at end : ℕ) → hasLF (drop at s) ≡ true → at + length (untilLF (drop at s)) ≡ end → get_or s end 0 ≡ 10
-ended-lf s at end h e = ap (λ (i : ℕ). get_or s i 0) (sym e) ∙ sym (get_or-drop at s (length (untilLF (drop at s))) 0) ∙ until-lf (drop at s) h
+ended_lf : (s : List ℕ) (at end : ℕ) → has_lf (drop at s) ≡ true → at + length (until_lf (drop at s)) ≡ end → get_or s end 0 ≡ 10
+ended_lf s at end h e = ap (λ (i : ℕ). get_or s i 0) (sym e) ∙ sym (get_or-drop at s (length (until_lf (drop at s))) 0) ∙ until_lf_lem (drop at s) h
 
-passed : (first : Bool) (s : List ℕ) (at line next : ℕ) (x : Next) → nextIn first s at line ≡ x → onTo next x ≡ true → Passed s at next
-unfolding nextIn placeAfter
+passed : (first : Bool) (s : List ℕ) (at line next : ℕ) (x : Next) → next_in first s at line ≡ x → on_to next x ≡ true → Passed s at next
+unfolding next_in place_after
 passed first s at line next x e on = go (leb (length s) at) (unended s at) refl refl e
   where
     go : (a b : Bool) → leb (length s) at ≡ a → unended s at ≡ b
-        → cond a End (cond b (RefusedAt 14 (length (drop at s))) (in_turn first (placeAfter s at) (readLine line (line_at s at)))) ≡ x → Passed s at next
+        → cond a End (cond b (RefusedAt 14 (length (drop at s))) (in_turn first (place_after s at) (read_line line (line_at s at)))) ≡ x → Passed s at next
     go true b p q r = never (cc)
     go false true p q r = never (cc)
     go false false p q r =
-        let k : placeAfter s at ≡ next = turn_on first (placeAfter s at) next (readLine line (line_at s at)) (ap (onTo next) r ∙ on) in
-        let f : Ended s at (next - 1) = ended-facts s at (next - 1) p q (omega arith) in
-        let has : hasLF (drop at s) ≡ true = ended-has s at (leb-false (length s) at p) q in
-        let len : length (line_at s at) ≡ length (untilLF (drop at s)) = ap length (line-ended s at has) in
-        record { start = omega arith; within = omega arith; part = f.part; left = p; lf = ended-lf s at (next - 1) has (omega arith) }
+        let k : place_after s at ≡ next = turn_on first (place_after s at) next (read_line line (line_at s at)) (ap (on_to next) r ∙ on) in
+        let f : Ended s at (next - 1) = ended_facts s at (next - 1) p q (omega arith) in
+        let has : has_lf (drop at s) ≡ true = ended-has s at (leb-false (length s) at p) q in
+        let len : length (line_at s at) ≡ length (until_lf (drop at s)) = ap length (line_ended s at has) in
+        record { start = omega arith; within = omega arith; part = f.part; left = p; lf = ended_lf s at (next - 1) has (omega arith) }
 
-pub begun : (first : Bool) (s : List ℕ) (at line : ℕ) {n next : ℕ} → nextIn first s at line ≡ BeginAt n next → Passed s at next
+pub begun : (first : Bool) (s : List ℕ) (at line : ℕ) {n next : ℕ} → next_in first s at line ≡ BeginAt n next → Passed s at next
 begun first s at line {n} {next} e = passed first s at line next (BeginAt n next) e (eq-eqb next next refl)
 
-pub acted : (first : Bool) (s : List ℕ) (at line : ℕ) {x : Step} {next : ℕ} → nextIn first s at line ≡ ActAt x next → Passed s at next
+pub acted : (first : Bool) (s : List ℕ) (at line : ℕ) {x : Step} {next : ℕ} → next_in first s at line ≡ ActAt x next → Passed s at next
 acted first s at line {x} {next} e = passed first s at line next (ActAt x next) e (eq-eqb next next refl)

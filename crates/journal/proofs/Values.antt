@@ -10,40 +10,40 @@ use Rattle.meaning.specs.declared.Action.TheVariants.{Write, Session, Purge, Del
 use Rattle.meaning.specs.declared.Line.{Line}
 use Rattle.meaning.specs.declared.Line.TheVariants.{Begin, Act, Refused}
 use Rattle.meaning.specs.declared.Next.TheVariants.{Refused as RefusedAt, End}
-use Rattle.meaning.specs.Frames.{kind_of, fields_of, readLine, lineValues}
-use Rattle.meaning.specs.Journals.{unended, line_at, placeAfter, in_turn, nextIn, next_at, nextValues}
-use Rattle.journal.specs.Read.{turnValues, readValues}
+use Rattle.meaning.specs.Frames.{kind_of, fields_of, read_line, line_values}
+use Rattle.meaning.specs.Journals.{unended, line_at, place_after, in_turn, next_in, next_at, next_values}
+use Rattle.journal.specs.Read.{turn_values, read_values}
 
 -- a step is no start
-later-values : (next : ℕ) (x : Action) → turnValues false next (0 ∷ 0 ∷ kind_of x ∷ fields_of x) ≡ 0 ∷ 0 ∷ kind_of x ∷ (fields_of x ++ (next ∷ []))
-later-values next (Write p t b v) = refl
-later-values next (Session a b ca cb o) = refl
-later-values next (Purge p) = refl
-later-values next (Deliver p) = refl
+later_values : (next : ℕ) (x : Action) → turn_values false next (0 ∷ 0 ∷ kind_of x ∷ fields_of x) ≡ 0 ∷ 0 ∷ kind_of x ∷ (fields_of x ++ (next ∷ []))
+later_values next (Write p t b v) = refl
+later_values next (Session a b ca cb o) = refl
+later_values next (Purge p) = refl
+later_values next (Deliver p) = refl
 
-first-values : (next : ℕ) (x : Action) → turnValues true next (0 ∷ 0 ∷ kind_of x ∷ fields_of x) ≡ 15 ∷ 0 ∷ []
-first-values next (Write p t b v) = refl
-first-values next (Session a b ca cb o) = refl
-first-values next (Purge p) = refl
-first-values next (Deliver p) = refl
+first_values : (next : ℕ) (x : Action) → turn_values true next (0 ∷ 0 ∷ kind_of x ∷ fields_of x) ≡ 15 ∷ 0 ∷ []
+first_values next (Write p t b v) = refl
+first_values next (Session a b ca cb o) = refl
+first_values next (Purge p) = refl
+first_values next (Deliver p) = refl
 
-turn-values : (first : Bool) (next : ℕ) (x : Line) → nextValues (in_turn first next x) ≡ turnValues first next (lineValues x)
-turn-values true next (Begin n) = refl
-turn-values true next (Act s) = sym (first-values next s.action)
-turn-values true next (Refused zero p) = refl
-turn-values true next (Refused (suc k) p) = refl
-turn-values false next (Begin n) = refl
-turn-values false next (Act s) = sym (later-values next s.action)
-turn-values false next (Refused zero p) = refl
-turn-values false next (Refused (suc k) p) = refl
+turn_values_lem : (first : Bool) (next : ℕ) (x : Line) → next_values (in_turn first next x) ≡ turn_values first next (line_values x)
+turn_values_lem true next (Begin n) = refl
+turn_values_lem true next (Act s) = sym (first_values next s.action)
+turn_values_lem true next (Refused zero p) = refl
+turn_values_lem true next (Refused (suc k) p) = refl
+turn_values_lem false next (Begin n) = refl
+turn_values_lem false next (Act s) = sym (later_values next s.action)
+turn_values_lem false next (Refused zero p) = refl
+turn_values_lem false next (Refused (suc k) p) = refl
 
-pub next-values : (s : List ℕ) (at line : ℕ) → nextValues (next_at s at line) ≡ readValues s at line
-unfolding nextIn
-next-values s at line = go (leb (length s) at) (unended s at)
+pub next_values_lem : (s : List ℕ) (at line : ℕ) → next_values (next_at s at line) ≡ read_values s at line
+unfolding next_in
+next_values_lem s at line = go (leb (length s) at) (unended s at)
   where
     go : (a b : Bool)
-        → nextValues (cond a End (cond b (RefusedAt 14 (length (drop at s))) (in_turn (eqb at 0) (placeAfter s at) (readLine line (line_at s at)))))
-        ≡ cond a (0 ∷ 0 ∷ []) (cond b (14 ∷ length (drop at s) ∷ []) (turnValues (eqb at 0) (placeAfter s at) (lineValues (readLine line (line_at s at)))))
+        → next_values (cond a End (cond b (RefusedAt 14 (length (drop at s))) (in_turn (eqb at 0) (place_after s at) (read_line line (line_at s at)))))
+        ≡ cond a (0 ∷ 0 ∷ []) (cond b (14 ∷ length (drop at s) ∷ []) (turn_values (eqb at 0) (place_after s at) (line_values (read_line line (line_at s at)))))
     go true b = refl
     go false true = refl
-    go false false = turn-values (eqb at 0) (placeAfter s at) (readLine line (line_at s at))
+    go false false = turn_values_lem (eqb at 0) (place_after s at) (read_line line (line_at s at))

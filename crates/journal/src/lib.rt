@@ -1,8 +1,8 @@
 // The journal reader on a slice and a place: what the line there says, in its turn. Its part and the place after it are `lineparts`'.
 // Document 01, "Frames and journals".
 ghost use Rattle.std.specs.Prelude.{◌≡◌};
-ghost use Rattle.meaning.specs.Frames.{readLine};
-ghost use Rattle.meaning.specs.Journals.{nextIn, next_at, in_turn};
+ghost use Rattle.meaning.specs.Frames.{read_line};
+ghost use Rattle.meaning.specs.Journals.{next_in, next_at, in_turn};
 
 use finder::{Found, find};
 use meaning::{Line, Next};
@@ -38,7 +38,7 @@ fn in_turn(first: bool, next: usize, said: Line) -> Next
 
 // What a line says in its turn, with the place after it. The one caller of `read_line`, which is then compiled into it.
 pub fn said(line: &[u8], number: usize, first: bool, next: usize) -> Next
-    ensures { result ≡ in_turn first next (readLine number line.now) }
+    ensures { result ≡ in_turn first next (read_line number line.now) }
 {
     let what = reading::read_line(line, number);
     in_turn(first, next, what)
@@ -46,7 +46,7 @@ pub fn said(line: &[u8], number: usize, first: bool, next: usize) -> Next
 
 // What the reader finds at a place, told the line number and whether the line there is the first. 14 tells the length of what is left.
 pub fn next_in(s: &[u8], at: usize, line: usize, first: bool) -> Next
-    ensures { result ≡ nextIn first s.now at line }
+    ensures { result ≡ next_in first s.now at line }
 {
     match find(s, at) {
         Found::Over => Next::End,

@@ -7,8 +7,8 @@ use lib.Dec.{eqb}
 use lib.ListN.{get_or, take, drop}
 use Rattle.meaning.specs.declared.Next.{Next}
 use Rattle.meaning.specs.declared.Next.TheVariants.{Begin, Act, Refused, End}
-use Rattle.meaning.specs.Journals.{line_at, next_at, handedBack, position}
-use Rattle.lineparts.specs.Reached.{partAt, positionAt}
+use Rattle.meaning.specs.Journals.{line_at, next_at, handed_back, position}
+use Rattle.lineparts.specs.Reached.{part_at, position_at}
 use Rattle.journal.proofs.Passing.{Passed, begun, acted}
 
 -- the part is what stands between the position before and the position after, less the LF
@@ -26,10 +26,10 @@ went : (s : List ℕ) (at next : ℕ) → Passed s at next → Agree s at (line_
 went s at next p = record { between = sym p.part; forward = omega arith; ended = λ h. p.lf }
 
 -- `next_at`, `part_at` and `position_at` agree at every place of every journal, whatever the line number
-pub agree : (s : List ℕ) (at line : ℕ) → Agree s at (partAt s at line) (positionAt s at line)
+pub agree : (s : List ℕ) (at line : ℕ) → Agree s at (part_at s at line) (position_at s at line)
 agree s at line = go (next_at s at line) refl
   where
-    go : (x : Next) → next_at s at line ≡ x → Agree s at (handedBack x (line_at s at)) (position at x)
+    go : (x : Next) → next_at s at line ≡ x → Agree s at (handed_back x (line_at s at)) (position at x)
     go (Begin n next) e = went s at next (begun (eqb at 0) s at line e)
     go (Act x next) e = went s at next (acted (eqb at 0) s at line e)
     go (Refused k p) e = stayed s at

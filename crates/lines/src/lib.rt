@@ -2,7 +2,7 @@
 // The entry point, `apply_lines`, takes any words and any bytes at all.
 ghost use Rattle.std.specs.Prelude.{◌≡◌, ◌+◌, ◌≤◌, length};
 ghost use Rattle.meaning.specs.Table.{Sound};
-ghost use Rattle.lines.specs.Applying.{haltedAt, Stepped, AppliedFrom, AppliedLines};
+ghost use Rattle.lines.specs.Applying.{halted_at, Stepped, AppliedFrom, AppliedLines};
 
 use meaning::{Next, Progress, Step};
 use steplines::{UNSURE, count};
@@ -20,7 +20,7 @@ fn step(t: &mut [u32], x: Step) -> usize
 
 // How far the lines were read.
 fn halted(steps: usize, refused: usize, stop: usize, number: u32, place: usize) -> Progress
-    ensures { result ≡ haltedAt steps refused stop number place }
+    ensures { result ≡ halted_at steps refused stop number place }
 {
     Progress {
         steps,

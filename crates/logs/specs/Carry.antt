@@ -2,15 +2,15 @@
 -- a log is the first to go and which are stored, and what carrying them requires.
 use Rattle.std.specs.Prelude.{◌≡◌, Bool, true, false, not, List, [], ◌∷◌, ℕ, suc, ◌+◌, ◌*◌, ◌≤◌, ◌<◌, length, leb}
 use Rattle.meaning.specs.declared.Record.{Record}
-use Rattle.meaning.specs.Rows.{newer, covers, keep, recordAt, records, words, all}
-use Rattle.meaning.specs.Table.{logMost, part, place, recordSound}
+use Rattle.meaning.specs.Rows.{newer, covers, keep, record_at, records, words, all}
+use Rattle.meaning.specs.Table.{log_most, part, place, record_sound}
 
 -- the first `held` records of the log at `from`, and one of its records
-abbrev pub logRecords : ℕ → ℕ → List ℕ → List Record
-logRecords from held t = records held (part from (4 * logMost) t)
+abbrev pub log_records : ℕ → ℕ → List ℕ → List Record
+log_records from held t = records held (part from (4 * log_most) t)
 
-abbrev pub logRecord : ℕ → ℕ → List ℕ → Record
-logRecord from row t = recordAt (part from (4 * logMost) t) row
+abbrev pub log_record : ℕ → ℕ → List ℕ → Record
+log_record from row t = record_at (part from (4 * log_most) t) row
 
 -- Records put at a place: how many they are, and the words at exit
 pub record Puts (at : ℕ) (rs : List Record) (t : List ℕ) (n : ℕ) (u : List ℕ) : Type 0 where
@@ -28,7 +28,7 @@ abbrev pub Barred : Bool → List ℕ → Record → Type 0
 Barred barred bars r = barred ≡ true → r.origin < length bars
 
 abbrev pub AllBarred : Bool → List ℕ → List Record → Type 0
-AllBarred barred bars rs = barred ≡ true → all (recordSound (length bars)) rs ≡ true
+AllBarred barred bars rs = barred ≡ true → all (record_sound (length bars)) rs ≡ true
 
 -- the records that stay where those leave for which a test says so, in their order
 abbrev pub stay : (Record → Bool) → List Record → List Record
@@ -38,35 +38,35 @@ stay leaves = keep (λ r. not (leaves r))
 pub record FirstLeaving (leaves : Record → Bool) (held : ℕ) (w : List ℕ) (r : ℕ) : Type 0 where
   pub within : r ≤ held
   pub before : stay leaves (records r w) ≡ records r w
-  pub first : r < held → leaves (recordAt w r) ≡ true
+  pub first : r < held → leaves (record_at w r) ≡ true
 
 -- Rows of a log of which the first is of a record that leaves
 pub record Closes (barred : Bool) (bars : List ℕ) (limit rows : ℕ) (w : List ℕ) : Type 0 where
   pub some : 0 < rows
   pub inside : 4 * rows ≤ length w
-  pub first : goes barred bars limit (recordAt w 0) ≡ true
+  pub first : goes barred bars limit (record_at w 0) ≡ true
   pub each : AllBarred barred bars (records rows w)
 
 -- The rows that closing up stores, in order, `k` being the next one free: a record that leaves stores none, one that stays goes to that row
-abbrev pub storedOr : Bool → ℕ → List ℕ → List ℕ → List ℕ
-storedOr true k none more = none
-storedOr false k none more = k ∷ more
+abbrev pub stored_or : Bool → ℕ → List ℕ → List ℕ → List ℕ
+stored_or true k none more = none
+stored_or false k none more = k ∷ more
 
-unfoldable pub storedRows : (Record → Bool) → ℕ → List Record → List ℕ
-storedRows leaves k [] = []
-storedRows leaves k (r ∷ rs) = storedOr (leaves r) k (storedRows leaves k rs) (storedRows leaves (suc k) rs)
+unfoldable pub stored_rows : (Record → Bool) → ℕ → List Record → List ℕ
+stored_rows leaves k [] = []
+stored_rows leaves k (r ∷ rs) = stored_or (leaves r) k (stored_rows leaves k rs) (stored_rows leaves (suc k) rs)
 
 -- The log read and the row written lie in the table, and the record's origin has an entry in the summary
 pub record Carries (t : List ℕ) (from row to : ℕ) (summary : List ℕ) : Type 0 where
-  pub inside : from + 4 * logMost ≤ length t
-  pub below : row < logMost
-  pub known : (logRecord from row t).origin < length summary
-  pub fits : to + 4 * length (newer summary (logRecord from row t ∷ [])) ≤ length t
+  pub inside : from + 4 * log_most ≤ length t
+  pub below : row < log_most
+  pub known : (log_record from row t).origin < length summary
+  pub fits : to + 4 * length (newer summary (log_record from row t ∷ [])) ≤ length t
 
 -- The same of the first `held` records, and what is written lies apart from the log
 pub record CarriesAll (t : List ℕ) (from held to : ℕ) (summary : List ℕ) : Type 0 where
-  pub inside : from + 4 * logMost ≤ length t
-  pub below : held ≤ logMost
-  pub known : all (recordSound (length summary)) (logRecords from held t) ≡ true
-  pub fits : to + 4 * length (newer summary (logRecords from held t)) ≤ length t
-  pub apart : from < to + 4 * length (newer summary (logRecords from held t)) → to < from + 4 * logMost → ⊥
+  pub inside : from + 4 * log_most ≤ length t
+  pub below : held ≤ log_most
+  pub known : all (record_sound (length summary)) (log_records from held t) ≡ true
+  pub fits : to + 4 * length (newer summary (log_records from held t)) ≤ length t
+  pub apart : from < to + 4 * length (newer summary (log_records from held t)) → to < from + 4 * log_most → ⊥

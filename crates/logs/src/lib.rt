@@ -1,8 +1,8 @@
 // Leaves over the records of a log, four words a row, lent as a part that starts anywhere: carried, closed up.
 // They know no offset: where a log stands is the caller's to say. Inner functions: what they require, the table's code shows.
 ghost use Rattle.std.specs.Prelude.{◌≡◌, [], ◌∷◌, ◌+◌, ◌*◌, ◌≤◌, ◌<◌, length};
-ghost use Rattle.meaning.specs.Rows.{newer, recordAt, records};
-ghost use Rattle.logs.specs.Carry.{logRecord, logRecords, Carries, CarriesAll, Puts, goes, stay, Barred, AllBarred, FirstLeaving, Closes};
+ghost use Rattle.meaning.specs.Rows.{newer, record_at, records};
+ghost use Rattle.logs.specs.Carry.{log_record, log_records, Carries, CarriesAll, Puts, goes, stay, Barred, AllBarred, FirstLeaving, Closes};
 
 use layout::LOG_WORDS;
 use meaning::Record;
@@ -11,7 +11,7 @@ use records::{is_newer, put_record, record_at};
 // Carries one record of the log at `from` to the place `to`, if it is newer than the summary: 1 if so, else 0.
 fn carry_one(t: &mut [u32], from: usize, row: usize, to: usize, summary: &[u32]) -> usize
     requires { Carries t.old from row to summary.now }
-    ensures { Puts to (newer summary.now (logRecord from row t.old ∷ [])) t.old result t.new }
+    ensures { Puts to (newer summary.now (log_record from row t.old ∷ [])) t.old result t.new }
 {
     let end = from + LOG_WORDS;
     let r = record_at(&t[from..end], row);
@@ -27,7 +27,7 @@ fn carry_one(t: &mut [u32], from: usize, row: usize, to: usize, summary: &[u32])
 // What it writes lies apart from that log. How many it carried.
 pub fn carry(t: &mut [u32], from: usize, held: usize, to: usize, summary: &[u32]) -> usize
     requires { CarriesAll t.old from held to summary.now }
-    ensures { Puts to (newer summary.now (logRecords from held t.old)) t.old result t.new }
+    ensures { Puts to (newer summary.now (log_records from held t.old)) t.old result t.new }
 {
     let mut k: usize = 0;
     let mut i: usize = 0;
@@ -76,8 +76,8 @@ fn close_one(
     bars: &[u32],
     limit: u32,
 ) -> usize
-    requires { (k < row) × (4 * row + 4 ≤ length tail.old) × Barred barred bars.now (recordAt tail.old row) }
-    ensures { Puts (4 * k) (stay (goes barred bars.now limit) (recordAt tail.old row ∷ []))
+    requires { (k < row) × (4 * row + 4 ≤ length tail.old) × Barred barred bars.now (record_at tail.old row) }
+    ensures { Puts (4 * k) (stay (goes barred bars.now limit) (record_at tail.old row ∷ []))
         tail.old result tail.new }
 {
     let r = record_at(tail, row);

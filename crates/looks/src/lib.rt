@@ -1,12 +1,12 @@
 // Words of a sound table, read through their offsets.
 ghost use Rattle.std.specs.Prelude.{◌≡◌, ◌≤◌, ◌<◌};
-ghost use Rattle.meaning.specs.Table.{nodesMost, logMost, count, held, mark, node, Sound};
+ghost use Rattle.meaning.specs.Table.{nodes_most, log_most, count, held, mark, node, Sound};
 ghost use Rattle.meaning.specs.Node.{own};
 
 // n, the number of nodes.
 pub fn nodes_of(t: &[u32]) -> usize
     requires { Sound t.now }
-    ensures { (result ≡ count t.now) × (result ≤ nodesMost) }
+    ensures { (result ≡ count t.now) × (result ≤ nodes_most) }
 {
     layout::count_of(t) as usize
 }
@@ -14,7 +14,7 @@ pub fn nodes_of(t: &[u32]) -> usize
 // The number of records in node p's log.
 pub fn held_of(t: &[u32], p: usize) -> usize
     requires { Sound t.now × (p < count t.now) }
-    ensures { (result ≡ held t.now p) × (result ≤ logMost) }
+    ensures { (result ≡ held t.now p) × (result ≤ log_most) }
 {
     layout::held_of(t, p) as usize
 }

@@ -14,24 +14,24 @@ use lib.Dec.{eqb}
 use borrow.Author.Tests.{eqb-true, eqb-false}
 use Rattle.meaning.specs.declared.Record.{Record}
 use Rattle.meaning.specs.Rows.{covers, newer}
-use Rattle.meaning.specs.Account.{sameRecord, has, lacking}
+use Rattle.meaning.specs.Account.{same_record, has, lacking}
 use Rattle.meaning.proofs.RowLaws.{and_left}
 use Rattle.meaning.proofs.AccountLaws.{
-  by-test,
-  not-both,
-  same-eq,
+  by_test,
+  not_both,
+  same_eq,
   has-append,
   has_one,
-  sublist-has,
+  sublist_has,
   has-lacking,
-  once-lacking,
+  once_lacking,
   keep_same,
-  once-append,
+  once_append,
   entry,
-  covers-le,
-  le-covers,
-  lt-covers,
-  covers-same,
+  covers_le,
+  le_covers,
+  lt_covers,
+  covers_same,
   covers-max,
 }
 
@@ -77,22 +77,22 @@ pub record Acked (n : ℕ) (w : World) (known : ℕ → ℕ → ℕ) : Type 0 wh
 
 -- The world grows -------------------------------------------------------------------------------------------------------------------------
 
-pub stamped-grows : (n : ℕ) (w v : World) → Grows n w v → Stamped n w → Stamped n v
-stamped-grows n w v g k =
+pub stamped_grows : (n : ℕ) (w v : World) → Grows n w v → Stamped n w → Stamped n v
+stamped_grows n w v g k =
     record {
-      origin = λ r h. by-test (has r w.written) (λ p. k.origin r p) (λ p. g.origin r p h);
+      origin = λ r h. by_test (has r w.written) (λ p. k.origin r p) (λ p. g.origin r p h);
       reached = λ r h.
-          by-test (has r w.written)
+          by_test (has r w.written)
           (λ p. omega (arith, k.reached r p, g.summary r.origin r.origin (k.origin r p)))
           (λ p. g.reached r p h);
       single = λ r s h i o t.
-          by-test (has r w.written)
+          by_test (has r w.written)
           (λ p.
-          by-test (has s w.written)
+          by_test (has s w.written)
           (λ q. k.single r s p q o t)
           (λ q. absurd (later r s p q i o t)))
           (λ p.
-          by-test (has s w.written)
+          by_test (has s w.written)
           (λ q. absurd (later s r q p h (sym o) (sym t)))
           (λ q. g.single r s p h q i o t));
     }
@@ -105,8 +105,8 @@ stamped-grows n w v g k =
         omega (arith, g.later s q i)
 
 -- a node that a step leaves alone
-pub kept-grows : (n : ℕ) (w v : World) → Grows n w v → (s : List ℕ) (log l : List Record) → Kept n w s log l → Kept n v s log l
-kept-grows n w v g s log l k =
+pub kept_grows : (n : ℕ) (w v : World) → Grows n w v → (s : List ℕ) (log l : List Record) → Kept n w s log l → Kept n v s log l
+kept_grows n w v g s log l k =
     record {
       wide = k.wide;
       behind = λ o h. omega (arith, k.behind o h, g.summary o o h);
@@ -114,25 +114,25 @@ kept-grows n w v g s log l k =
       once = k.once;
       less = k.less;
       known = λ r a b q h.
-          let c = covers-le (w.summary q) r (k.known r a b q h) in
-          le-covers (v.summary q) r (omega (arith, g.summary q r.origin h));
+          let c = covers_le (w.summary q) r (k.known r a b q h) in
+          le_covers (v.summary q) r (omega (arith, g.summary q r.origin h));
     }
   where
     exact : (r : Record) → has r l ≡ has r v.written && covers s r
     exact r =
         let e = k.exact r in
-        by-test (has r w.written)
+        by_test (has r w.written)
         (λ p. let q = g.written r p in cc)
         (λ p.
-        by-test (has r v.written)
+        by_test (has r v.written)
         (λ q.
         let u = k.behind r.origin (g.origin r p q) in
-        let c : covers s r ≡ false = lt-covers s r (omega (arith, g.later r p q)) in
+        let c : covers s r ≡ false = lt_covers s r (omega (arith, g.later r p q)) in
         cc)
         (λ q. cc))
 
-pub acked-grows : (n : ℕ) (w v : World) → Grows n w v → (known : ℕ → ℕ → ℕ) → Acked n w known → Acked n v known
-acked-grows n w v g known k = record { reached = λ q o h j. omega (arith, k.reached q o h j, g.summary q o h) }
+pub acked_grows : (n : ℕ) (w v : World) → Grows n w v → (known : ℕ → ℕ → ℕ) → Acked n w known → Acked n v known
+acked_grows n w v g known k = record { reached = λ q o h j. omega (arith, k.reached q o h j, g.summary q o h) }
 
 -- What a step may do to one node -------------------------------------------------------------------------------------------------------------------
 
@@ -173,9 +173,9 @@ pub record Dropping (n : ℕ) (w : World) (log log' : List Record) : Type 0 wher
 -- Each of these keeps the invariant ------------------------------------------------------------------------------------------------------------
 
 -- nothing more is covered by a reading, since all that p wrote was covered already
-pub kept-reading : (n : ℕ) (w : World) (p : ℕ) (s s' : List ℕ) (log l : List Record) → Reading n w p s s' →
+pub kept_reading : (n : ℕ) (w : World) (p : ℕ) (s s' : List ℕ) (log l : List Record) → Reading n w p s s' →
     ((r : Record) → has r w.written ≡ true → r.origin ≡ p → r.timestamp ≤ entry s p) → Kept n w s log l → Kept n w s' log l
-kept-reading n w p s s' log l f all k =
+kept_reading n w p s s' log l f all k =
     record {
       wide = f.wide;
       behind = behind;
@@ -187,47 +187,47 @@ kept-reading n w p s s' log l f all k =
   where
     behind : (o : ℕ) → o < n → entry s' o ≤ entry (w.summary o) o
     behind o h =
-        by-test (eqb o p)
+        by_test (eqb o p)
         (λ e. subst (λ (i : ℕ). entry s' i ≤ entry (w.summary i) i) (sym (eqb-true o p e)) f.top)
         (λ e. omega (arith, f.others o (eqb-false o p e), k.behind o h))
 
     exact : (r : Record) → has r l ≡ has r w.written && covers s' r
     exact r =
         let e = k.exact r in
-        by-test (eqb r.origin p)
+        by_test (eqb r.origin p)
         (λ o.
         let q = eqb-true r.origin p o in
-        by-test (has r w.written)
+        by_test (has r w.written)
         (λ h.
         let t = all r h q in
-        let a : covers s r ≡ true = le-covers s r (rw q t) in
-        let b : covers s' r ≡ true = le-covers s' r (rw q (omega (arith, f.up))) in
+        let a : covers s r ≡ true = le_covers s r (rw q t) in
+        let b : covers s' r ≡ true = le_covers s' r (rw q (omega (arith, f.up))) in
         cc)
         (λ h. cc))
         (λ o.
-        let g = covers-same s' s r (f.others r.origin (eqb-false r.origin p o)) in
+        let g = covers_same s' s r (f.others r.origin (eqb-false r.origin p o)) in
         cc)
 
-pub acked-learning :
+pub acked_learning :
     (n : ℕ) (w : World) (known theirs known' : ℕ → ℕ → ℕ) → Learning n w known theirs known' → Acked n w known → Acked n w theirs → Acked n w known'
-acked-learning n w known theirs known' f mine other =
+acked_learning n w known theirs known' f mine other =
     record { reached = λ q o h j. omega (arith, f.most q o h j, mine.reached q o h j, other.reached q o h j) }
 
 -- A side that finishes: its account gains what the partner's held and it lacked.
-pub kept-taking : (n : ℕ) (w : World) (s t s' : List ℕ) (log theirs log' l m : List Record) → Raising n s t s' → Taking log theirs log' l m →
+pub kept_taking : (n : ℕ) (w : World) (s t s' : List ℕ) (log theirs log' l m : List Record) → Raising n s t s' → Taking log theirs log' l m →
     Kept n w s log l → Kept n w t theirs m → Kept n w s' log' (l ++ lacking l m)
-kept-taking n w s t s' log theirs log' l m f g mine other =
+kept_taking n w s t s' log theirs log' l m f g mine other =
     record {
       wide = f.wide;
       behind = λ o h. omega (arith, f.greater o, mine.behind o h, other.behind o h);
       exact = exact;
-      once = once-append l (lacking l m) mine.once (once-lacking l m other.once) apart;
+      once = once_append l (lacking l m) mine.once (once_lacking l m other.once) apart;
       less = g.order;
       known = known;
     }
   where
     apart : (r : Record) → has r l ≡ true → has r (lacking l m) ≡ false
-    apart r h = let a = has-lacking r l m in by-test (has r m) (λ p. cc) (λ p. cc)
+    apart r h = let a = has-lacking r l m in by_test (has r m) (λ p. cc) (λ p. cc)
 
     exact : (r : Record) → has r (l ++ lacking l m) ≡ has r w.written && covers s' r
     exact r =
@@ -236,43 +236,43 @@ kept-taking n w s t s' log theirs log' l m f g mine other =
         let c = mine.exact r in
         let d = other.exact r in
         let e = covers-max s t s' r (f.greater r.origin) in
-        by-test (has r w.written)
-        (λ h. by-test (covers s r) (λ p. cc) (λ p. by-test (covers t r) (λ q. cc) (λ q. cc)))
+        by_test (has r w.written)
+        (λ h. by_test (covers s r) (λ p. cc) (λ p. by_test (covers t r) (λ q. cc) (λ q. cc)))
         (λ h. cc)
 
     known : (r : Record) → has r (l ++ lacking l m) ≡ true → has r log' ≡ false → (q : ℕ) → q < n → covers (w.summary q) r ≡ true
     known r h i q j =
-        by-test (has r l)
-        (λ p. mine.known r p (by-test (has r log) (λ z. not-both (has r log') (g.keeps r z) i) (λ z. z)) q j)
+        by_test (has r l)
+        (λ p. mine.known r p (by_test (has r log) (λ z. not_both (has r log') (g.keeps r z) i) (λ z. z)) q j)
         (λ p.
         let d = has-append r l (lacking l m) in
         let e = has-lacking r l m in
-        let u : has r m ≡ true = by-test (has r m) (λ x. x) (λ x. cc) in
-        other.known r u (by-test (has r theirs) (λ z. not-both (has r log') (g.takes r z p) i) (λ z. z)) q j)
+        let u : has r m ≡ true = by_test (has r m) (λ x. x) (λ x. cc) in
+        other.known r u (by_test (has r theirs) (λ z. not_both (has r log') (g.takes r z p) i) (λ z. z)) q j)
 
 -- A write: the writer's summary was the world's for it, and the record is the one that the world gains.
-pub kept-writing : (n : ℕ) (w v : World) (r : Record) (s' : List ℕ) (log log' l : List Record) → Grows n w v → Stamped n w →
+pub kept_writing : (n : ℕ) (w v : World) (r : Record) (s' : List ℕ) (log log' l : List Record) → Grows n w v → Stamped n w →
     entry (w.summary r.origin) r.origin < r.timestamp → r.timestamp ≤ entry (v.summary r.origin) r.origin →
-    ((x : Record) → has x v.written ≡ has x w.written || sameRecord x r) → Writing n r (w.summary r.origin) s' log log' →
+    ((x : Record) → has x v.written ≡ has x w.written || same_record x r) → Writing n r (w.summary r.origin) s' log log' →
     Kept n w (w.summary r.origin) log l → Kept n v s' log' (l ++ (r ∷ []))
-kept-writing n w v r s' log log' l g stamped later top gained f k =
+kept_writing n w v r s' log log' l g stamped later top gained f k =
     record {
       wide = f.wide;
       behind = behind;
       exact = exact;
-      once = once-append l (r ∷ []) k.once (Pairwise-singleton (λ (a b : Record). a ≢ b) r) apart;
+      once = once_append l (r ∷ []) k.once (Pairwise-singleton (λ (a b : Record). a ≢ b) r) apart;
       less = rw f.last (Sublistᴰ.append k.less (Sublistᴰ.refl (r ∷ [])));
       known = known;
     }
   where
     behind : (o : ℕ) → o < n → entry s' o ≤ entry (v.summary o) o
     behind o h =
-        by-test (eqb o r.origin)
+        by_test (eqb o r.origin)
         (λ e. subst (λ (i : ℕ). entry s' i ≤ entry (v.summary i) i) (sym (eqb-true o r.origin e)) (omega (arith, f.own)))
         (λ e. omega (arith, f.others o (eqb-false o r.origin e), k.behind o h, g.summary o o h))
 
     new : has r w.written ≡ false
-    new = by-test (has r w.written) (λ h. absurd (omega (arith, stamped.reached r h))) (λ h. h)
+    new = by_test (has r w.written) (λ h. absurd (omega (arith, stamped.reached r h))) (λ h. h)
 
     exact : (x : Record) → has x (l ++ (r ∷ [])) ≡ has x v.written && covers s' x
     exact x =
@@ -280,59 +280,59 @@ kept-writing n w v r s' log log' l g stamped later top gained f k =
         let b = has_one x r in
         let d = gained x in
         let e = k.exact x in
-        by-test (sameRecord x r)
+        by_test (same_record x r)
         (λ h.
-        let y = same-eq x r h in
-        let u : covers s' r ≡ true = le-covers s' r (omega (arith, f.own)) in
-        by-test (has x w.written) (λ i. by-test (has x l) (λ j. cc) (λ j. cc)) (λ i. cc))
+        let y = same_eq x r h in
+        let u : covers s' r ≡ true = le_covers s' r (omega (arith, f.own)) in
+        by_test (has x w.written) (λ i. by_test (has x l) (λ j. cc) (λ j. cc)) (λ i. cc))
         (λ h.
-        by-test (has x w.written)
+        by_test (has x w.written)
         (λ i.
-        by-test (eqb x.origin r.origin)
+        by_test (eqb x.origin r.origin)
         (λ o.
         let q = eqb-true x.origin r.origin o in
         let y : x.timestamp ≤ entry (w.summary r.origin) r.origin = rw q at (stamped.reached x i) in
-        let z : covers (w.summary r.origin) x ≡ true = le-covers (w.summary r.origin) x (rw q y) in
-        let u : covers s' x ≡ true = le-covers s' x (rw q (omega (arith, f.own))) in
+        let z : covers (w.summary r.origin) x ≡ true = le_covers (w.summary r.origin) x (rw q y) in
+        let u : covers s' x ≡ true = le_covers s' x (rw q (omega (arith, f.own))) in
         cc)
         (λ o.
-        let z = covers-same s' (w.summary r.origin) x (f.others x.origin (eqb-false x.origin r.origin o)) in
-        by-test (has x l) (λ j. cc) (λ j. cc)))
+        let z = covers_same s' (w.summary r.origin) x (f.others x.origin (eqb-false x.origin r.origin o)) in
+        by_test (has x l) (λ j. cc) (λ j. cc)))
         (λ i. cc))
 
     apart : (x : Record) → has x l ≡ true → has x (r ∷ []) ≡ false
     apart x h =
         let a = has_one x r in
         let e = k.exact x in
-        by-test (sameRecord x r) (λ y. let q = same-eq x r y in let z = new in cc) (λ y. cc)
+        by_test (same_record x r) (λ y. let q = same_eq x r y in let z = new in cc) (λ y. cc)
 
     known : (x : Record) → has x (l ++ (r ∷ [])) ≡ true → has x log' ≡ false → (q : ℕ) → q < n → covers (v.summary q) x ≡ true
     known x h i q j =
         let a = ap (has x) f.last ∙ has-append x log (r ∷ []) in
-        let b : has x log ≡ false = by-test (has x log) (λ z. cc) (λ z. z) in
+        let b : has x log ≡ false = by_test (has x log) (λ z. cc) (λ z. z) in
         let d : has x (r ∷ []) ≡ false = cc in
         let e = has-append x l (r ∷ []) in
-        let u : has x l ≡ true = by-test (has x l) (λ y. y) (λ y. cc) in
-        let y = covers-le (w.summary q) x (k.known x u b q j) in
-        le-covers (v.summary q) x (omega (arith, g.summary q x.origin j))
+        let u : has x l ≡ true = by_test (has x l) (λ y. y) (λ y. cc) in
+        let y = covers_le (w.summary q) x (k.known x u b q j) in
+        le_covers (v.summary q) x (omega (arith, g.summary q x.origin j))
 
-pub kept-dropping : (n : ℕ) (w : World) (s : List ℕ) (log log' l : List Record) → Dropping n w log log' → Kept n w s log l → Kept n w s log' l
-kept-dropping n w s log log' l f k =
+pub kept_dropping : (n : ℕ) (w : World) (s : List ℕ) (log log' l : List Record) → Dropping n w log log' → Kept n w s log l → Kept n w s log' l
+kept_dropping n w s log log' l f k =
     record {
       wide = k.wide;
       behind = k.behind;
       exact = k.exact;
       once = k.once;
       less = Sublistᴰ.trans f.order k.less;
-      known = λ r h i q j. by-test (has r log) (λ p. f.gone r p i q j) (λ p. k.known r h p q j);
+      known = λ r h i q j. by_test (has r log) (λ p. f.gone r p i q j) (λ p. k.known r h p q j);
     }
 
 -- What follows of a log and of an account ----------------------------------------------------------------------------------------------------------
 
 -- what a log holds was written
-pub log-written : (n : ℕ) (w : World) (s : List ℕ) (log l : List Record) (r : Record) → Kept n w s log l → has r log ≡ true → has r w.written ≡ true
-log-written n w s log l r k h =
-    let a = sublist-has log l r k.less h in
+pub log_written : (n : ℕ) (w : World) (s : List ℕ) (log l : List Record) (r : Record) → Kept n w s log l → has r log ≡ true → has r w.written ≡ true
+log_written n w s log l r k h =
+    let a = sublist_has log l r k.less h in
     let e = k.exact r in
     and_left (has r w.written) (covers s r) (sym e ∙ a)
 

@@ -12,94 +12,94 @@ use Rattle.meaning.specs.declared.Line.{Line}
 use Rattle.meaning.specs.declared.Line.TheVariants.{Begin, Act, Refused}
 use Rattle.meaning.specs.declared.Next.{Next}
 use Rattle.meaning.specs.declared.Next.TheVariants.{Begin as BeginAt, Act as ActAt, Refused as RefusedAt, End}
-use Rattle.meaning.specs.Table.{Vectors, nodesMost, countRight, fresh}
-use Rattle.meaning.specs.Frames.{bytes_of, lineKind, lineFields, lineRefusal, linePlace, meant, lineIs, readLine}
-use Rattle.meaning.specs.Journals.{unended, line_at, placeAfter, in_turn, nextIn, next_at, journal, startedFrom, afterAll, replayAfter}
+use Rattle.meaning.specs.Table.{Vectors, nodes_most, count_right, fresh}
+use Rattle.meaning.specs.Frames.{bytes_of, line_kind, line_fields, line_refusal, line_place, meant, line_is, read_line}
+use Rattle.meaning.specs.Journals.{unended, line_at, place_after, in_turn, next_in, next_at, journal, started_from, after_all, replay_after}
 use Rattle.meaning.specs.Account.{events, run}
 use Rattle.meaning.proofs.FrameLaws.{good}
 use Rattle.meaning.proofs.RowLaws.{and_left, and_right}
-use Rattle.meaning.proofs.AccountCorollaries.{run-table}
+use Rattle.meaning.proofs.AccountCorollaries.{run_table}
 use Rattle.meaning.proofs.Demand3.{NothingLost, demand3}
 
 -- a start that is not refused has 2 to 16 nodes
-abbrev lineRight : Line → Bool
-lineRight (Begin n) = countRight n
-lineRight (Act s) = true
-lineRight (Refused k p) = true
+abbrev line_right : Line → Bool
+line_right (Begin n) = count_right n
+line_right (Act s) = true
+line_right (Refused k p) = true
 
-meant-right : (line : ℕ) (bs : List ℕ) (b : Bool) → b && not (countRight (get_or (lineFields bs) 0 0)) ≡ false → lineRight (meant line bs b) ≡ true
-meant-right line bs true h = not-false (countRight (get_or (lineFields bs) 0 0)) h
-meant-right line bs false h = refl
+meant_right : (line : ℕ) (bs : List ℕ) (b : Bool) → b && not (count_right (get_or (line_fields bs) 0 0)) ≡ false → line_right (meant line bs b) ≡ true
+meant_right line bs true h = not-false (count_right (get_or (line_fields bs) 0 0)) h
+meant_right line bs false h = refl
 
-lineIs-right : (k p : ℕ) (x : Line) → (k ≡ 0 → lineRight x ≡ true) → lineRight (lineIs k p x) ≡ true
-lineIs-right zero p x h = h refl
-lineIs-right (suc k) p x h = refl
+line_is_right : (k p : ℕ) (x : Line) → (k ≡ 0 → line_right x ≡ true) → line_right (line_is k p x) ≡ true
+line_is_right zero p x h = h refl
+line_is_right (suc k) p x h = refl
 
-line-right : (line : ℕ) (l : List ℕ) → lineRight (readLine line l) ≡ true
-unfolding readLine
-line-right line l =
+line_right_lem : (line : ℕ) (l : List ℕ) → line_right (read_line line l) ≡ true
+unfolding read_line
+line_right_lem line l =
     let bs = bytes_of l in
-    let start = eqb (lineKind bs) 0 in
-    lineIs-right (lineRefusal l) (linePlace l) (meant line bs start) (λ h. meant-right line bs start (good l h).start)
+    let start = eqb (line_kind bs) 0 in
+    line_is_right (line_refusal l) (line_place l) (meant line bs start) (λ h. meant_right line bs start (good l h).start)
 
-abbrev nextRight : Next → Bool
-nextRight (BeginAt n next) = countRight n
-nextRight (ActAt s next) = true
-nextRight (RefusedAt k p) = true
-nextRight End = true
+abbrev next_right : Next → Bool
+next_right (BeginAt n next) = count_right n
+next_right (ActAt s next) = true
+next_right (RefusedAt k p) = true
+next_right End = true
 
-inTurn-right : (first : Bool) (next : ℕ) (x : Line) → lineRight x ≡ true → nextRight (in_turn first next x) ≡ true
-inTurn-right true next (Begin n) h = h
-inTurn-right true next (Act s) h = refl
-inTurn-right true next (Refused k p) h = refl
-inTurn-right false next (Begin n) h = refl
-inTurn-right false next (Act s) h = refl
-inTurn-right false next (Refused k p) h = refl
+in_turn_right : (first : Bool) (next : ℕ) (x : Line) → line_right x ≡ true → next_right (in_turn first next x) ≡ true
+in_turn_right true next (Begin n) h = h
+in_turn_right true next (Act s) h = refl
+in_turn_right true next (Refused k p) h = refl
+in_turn_right false next (Begin n) h = refl
+in_turn_right false next (Act s) h = refl
+in_turn_right false next (Refused k p) h = refl
 
-cond-right : (b : Bool) (x y : Next) → nextRight x ≡ true → nextRight y ≡ true → nextRight (cond b x y) ≡ true
-cond-right true x y p q = p
-cond-right false x y p q = q
+cond_right : (b : Bool) (x y : Next) → next_right x ≡ true → next_right y ≡ true → next_right (cond b x y) ≡ true
+cond_right true x y p q = p
+cond_right false x y p q = q
 
-next-right : (first : Bool) (s : List ℕ) (at line : ℕ) → nextRight (nextIn first s at line) ≡ true
-unfolding nextIn
-next-right first s at line =
-    cond-right (leb (length s) at) End _ refl
-    (cond-right (unended s at) (RefusedAt 14 _) _ refl
-    (inTurn-right first (placeAfter s at) (readLine line (line_at s at)) (line-right line (line_at s at))))
+next_right_lem : (first : Bool) (s : List ℕ) (at line : ℕ) → next_right (next_in first s at line) ≡ true
+unfolding next_in
+next_right_lem first s at line =
+    cond_right (leb (length s) at) End _ refl
+    (cond_right (unended s at) (RefusedAt 14 _) _ refl
+    (in_turn_right first (place_after s at) (read_line line (line_at s at)) (line_right_lem line (line_at s at))))
 
-pub begin-right : (first : Bool) (s : List ℕ) (at line : ℕ) {n next : ℕ} → nextIn first s at line ≡ BeginAt n next → countRight n ≡ true
-begin-right first s at line e = sym (ap nextRight e) ∙ next-right first s at line
+pub begin_right : (first : Bool) (s : List ℕ) (at line : ℕ) {n next : ℕ} → next_in first s at line ≡ BeginAt n next → count_right n ≡ true
+begin_right first s at line e = sym (ap next_right e) ∙ next_right_lem first s at line
 
 -- a journal has no start, or one of 2 to 16 nodes
-journal-right-at : (s : List ℕ) (x : Next) → next_at s 0 1 ≡ x → nextRight x ≡ true → ((journal s).n ≡ 0) ⊎ (countRight (journal s).n ≡ true)
+journal_right_at : (s : List ℕ) (x : Next) → next_at s 0 1 ≡ x → next_right x ≡ true → ((journal s).n ≡ 0) ⊎ (count_right (journal s).n ≡ true)
 unfolding journal
-journal-right-at s (BeginAt n next) e h = rw (e, journal) (inr h)
-journal-right-at s (ActAt x next) e h = rw (e, journal) (inl refl)
-journal-right-at s (RefusedAt k p) e h = rw (e, journal) (inl refl)
-journal-right-at s End e h = rw (e, journal) (inl refl)
+journal_right_at s (BeginAt n next) e h = rw (e, journal) (inr h)
+journal_right_at s (ActAt x next) e h = rw (e, journal) (inl refl)
+journal_right_at s (RefusedAt k p) e h = rw (e, journal) (inl refl)
+journal_right_at s End e h = rw (e, journal) (inl refl)
 
-pub journal-right : (s : List ℕ) → ((journal s).n ≡ 0) ⊎ (countRight (journal s).n ≡ true)
-journal-right s = journal-right-at s (next_at s 0 1) refl (next-right true s 0 1)
+pub journal_right : (s : List ℕ) → ((journal s).n ≡ 0) ⊎ (count_right (journal s).n ≡ true)
+journal_right s = journal_right_at s (next_at s 0 1) refl (next_right_lem true s 0 1)
 
-pub started : (n : ℕ) (t : List ℕ) → 0 < n → startedFrom n t ≡ fresh Vectors n
+pub started : (n : ℕ) (t : List ℕ) → 0 < n → started_from n t ≡ fresh Vectors n
 started zero t h = absurd (omega arith)
 started (suc n) t h = refl
 
 -- DEMAND 3 of journals: whatever words were lent and whatever the journal holds, the table after its replay is that of the run of its steps, up to
 -- the end or the first refused line, and at each of its nodes nothing is lost.
-pub journal-demand3 : (t s : List ℕ) (p : ℕ) → p < (journal s).n →
-    (replayAfter t s ≡ (run Vectors (journal s).n (events (journal s).rest.steps)).table) ×
+pub journal_demand3 : (t s : List ℕ) (p : ℕ) → p < (journal s).n →
+    (replay_after t s ≡ (run Vectors (journal s).n (events (journal s).rest.steps)).table) ×
     NothingLost (journal s).n (run Vectors (journal s).n (events (journal s).rest.steps)) p
-unfolding replayAfter
-journal-demand3 t s p h = (
-  ap (λ (u : List ℕ). afterAll u (journal s).rest.steps) (started (journal s).n t (omega arith)) ∙
-      sym (run-table Vectors (journal s).n (journal s).rest.steps),
-  within (journal-right s),
+unfolding replay_after
+journal_demand3 t s p h = (
+  ap (λ (u : List ℕ). after_all u (journal s).rest.steps) (started (journal s).n t (omega arith)) ∙
+      sym (run_table Vectors (journal s).n (journal s).rest.steps),
+  within (journal_right s),
 )
   where
-    within : ((journal s).n ≡ 0) ⊎ (countRight (journal s).n ≡ true) →
+    within : ((journal s).n ≡ 0) ⊎ (count_right (journal s).n ≡ true) →
         NothingLost (journal s).n (run Vectors (journal s).n (events (journal s).rest.steps)) p
     within (inl e) = absurd (omega arith)
     within (inr c) =
-        demand3 Vectors (journal s).n (leb-true 2 (journal s).n (and_left (leb 2 (journal s).n) (leb (journal s).n nodesMost) c))
-        (leb-true (journal s).n nodesMost (and_right (leb 2 (journal s).n) (leb (journal s).n nodesMost) c)) (events (journal s).rest.steps) p h
+        demand3 Vectors (journal s).n (leb-true 2 (journal s).n (and_left (leb 2 (journal s).n) (leb (journal s).n nodes_most) c))
+        (leb-true (journal s).n nodes_most (and_right (leb 2 (journal s).n) (leb (journal s).n nodes_most) c)) (events (journal s).rest.steps) p h

@@ -15,8 +15,8 @@ pub or_right : (n a b : ℕ) → bit_or a b < n → b < n
 or_right n a b h = omega (arith, or_add_and a b, and_le_l a b)
 
 -- the same as a test, for the greatest number n of a width
-pub or-within : (width n a b : ℕ) → suc n ≡ 2 ^ width → leb (bit_or a b) n ≡ (leb a n && leb b n)
-or-within width n a b e = go (leb a n) (leb b n) refl refl
+pub or_within : (width n a b : ℕ) → suc n ≡ 2 ^ width → leb (bit_or a b) n ≡ (leb a n && leb b n)
+or_within width n a b e = go (leb a n) (leb b n) refl refl
   where
     go : (p q : Bool) → leb a n ≡ p → leb b n ≡ q → leb (bit_or a b) n ≡ (p && q)
     go true true hp hq =
@@ -26,4 +26,4 @@ or-within width n a b e = go (leb a n) (leb b n) refl refl
     go false q hp hq = lt-leb (bit_or a b) n (omega (arith, leb-false a n hp, or_add_and a b, and_le_r a b))
 
 pub or_byte : (a b : ℕ) → leb (bit_or a b) 255 ≡ (leb a 255 && leb b 255)
-or_byte a b = or-within 8 255 a b refl
+or_byte a b = or_within 8 255 a b refl

@@ -24,8 +24,8 @@ use Rattle.meaning.specs.Rows.{covers}
 use Rattle.meaning.specs.Table.{Form, node}
 use Rattle.meaning.specs.Account.{has, Run, Event, run}
 use Rattle.meaning.proofs.RowLaws.{and_left, and_both}
-use Rattle.meaning.proofs.AccountLaws.{has-mem, mem-has, covers-le, le-covers}
-use Rattle.meaning.proofs.AccountTable.{Sure, sure-run}
+use Rattle.meaning.proofs.AccountLaws.{has_mem, mem_has, covers_le, le_covers}
+use Rattle.meaning.proofs.AccountTable.{Sure, sure_run}
 
 -- What demand 3 says of node p, one of n, in a run.
 pub record NothingLost (n : ℕ) (x : Run) (p : ℕ) : Type 0 where
@@ -41,8 +41,8 @@ pub record NothingLost (n : ℕ) (x : Run) (p : ℕ) : Type 0 where
   pub missing : (r : Record) → has r (x.account.of p) ≡ true → has r (node x.table p).log ≡ false → (q : ℕ) → q < n → has r (x.account.of q) ≡ true
 
 -- of any run that has the invariant
-pub nothing-lost : (n : ℕ) (x : Run) → Sure n x → (p : ℕ) → p < n → NothingLost n x p
-nothing-lost n x u p h =
+pub nothing_lost : (n : ℕ) (x : Run) → Sure n x → (p : ℕ) → p < n → NothingLost n x p
+nothing_lost n x u p h =
     let k = (u.whole.holds p h).kept in
     record {
       exactly = k.exact;
@@ -55,12 +55,12 @@ nothing-lost n x u p h =
 
 -- DEMAND 3. For both forms, every number of nodes from 2 to 16, every list of events, which are steps, and every node.
 pub demand3 : (f : Form) (n : ℕ) → 2 ≤ n → n ≤ 16 → (es : List Event) → (p : ℕ) → p < n → NothingLost n (run f n es) p
-demand3 f n least most es p h = nothing-lost n (run f n es) (sure-run f n least most es) p h
+demand3 f n least most es p h = nothing_lost n (run f n es) (sure_run f n least most es) p h
 
 -- The two tests in it mean what they say. A list has a record, as tested, if and only if the record is a member of the list.
 pub membership : (r : Record) (l : List Record) → (has r l ≡ true) ↔ Memᴰ r l
-membership r l = (has-mem r l, mem-has r l)
+membership r l = (has_mem r l, mem_has r l)
 
 -- "A summary covers a record when the record's timestamp is at most the entry for its origin."
 pub covering : (summary : List ℕ) (r : Record) → (covers summary r ≡ true) ↔ (r.timestamp ≤ get_or summary r.origin 0)
-covering summary r = (covers-le summary r, le-covers summary r)
+covering summary r = (covers_le summary r, le_covers summary r)

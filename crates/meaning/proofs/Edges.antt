@@ -17,24 +17,24 @@ use Rattle.meaning.specs.declared.Action.{Action}
 use Rattle.meaning.specs.declared.Action.TheVariants.{Write, Session, Purge, Deliver}
 use Rattle.meaning.specs.declared.Reply.TheVariants.{Refused}
 use Rattle.meaning.specs.declared.Outcome.TheVariants.{Refused as Unread}
-use Rattle.meaning.specs.Refusals.{first, firstPlace}
+use Rattle.meaning.specs.Refusals.{first, first_place}
 use Rattle.meaning.specs.Rows.{
   ascii,
   every,
   all,
   keep,
   least,
-  leastAt,
+  least_at,
   raise,
-  raiseEach,
+  raise_each,
   covers,
   newer,
   above,
   due,
   earlier,
   inserted,
-  inOrder,
-  recordAt,
+  in_order,
+  record_at,
   records,
   words,
 }
@@ -42,38 +42,38 @@ use Rattle.meaning.specs.Table.{
   Form,
   Vectors,
   Columns,
-  formWords,
+  form_words,
   form_of,
-  columnAt,
-  summaryAt,
-  acksAt,
-  heldAt,
+  column_at,
+  summary_at,
+  acks_at,
+  held_at,
   log_at,
-  markAt,
+  mark_at,
   part,
   place,
   count,
   held,
   mark,
-  columnsFrom,
+  columns_from,
   Node,
   node,
   Piece,
   piece,
   lay,
-  columnPieces,
+  column_pieces,
   pieces,
-  putNode,
-  putMark,
+  put_node,
+  put_mark,
   fresh,
-  freshRefusal,
-  madeFresh,
-  recordSound,
-  logSound,
+  fresh_refusal,
+  made_fresh,
+  record_sound,
+  log_sound,
   sound,
   Sound,
 }
-use Rattle.meaning.specs.Node.{own, wrote, opened, learnt, finished, ended, purged, limitOf, leaves, lows, waiting, given, raised}
+use Rattle.meaning.specs.Node.{own, wrote, opened, learnt, finished, ended, purged, limit_of, leaves, lows, waiting, given, raised}
 use Rattle.meaning.specs.Steps.{
   overfull,
   refusals,
@@ -85,81 +85,81 @@ use Rattle.meaning.specs.Steps.{
   reported,
   reply,
   after,
-  replyValues,
-  dueOf,
-  lentRefusals,
-  lentRefusal,
-  lentReply,
-  lentAfter,
-  listAfter,
+  reply_values,
+  due_of,
+  lent_refusals,
+  lent_refusal,
+  lent_reply,
+  lent_after,
+  list_after,
 }
 use Rattle.meaning.specs.Frames.{
   digit,
-  digitValue,
+  digit_value,
   spelled,
   bytes_of,
-  allDigits,
-  strayAt,
+  all_digits,
+  stray_at,
   total,
   check,
-  journalKinds,
+  journal_kinds,
   known_in,
-  widthsIn,
-  digitsIn,
-  fieldPlaceIn,
-  highFirst,
+  widths_in,
+  digits_in,
+  field_place_in,
+  high_first,
   number,
   packed,
   unpacked,
-  actionOf,
+  action_of,
   sealed,
-  frameIn,
+  frame_in,
   frame,
-  startFrame,
-  lineKind,
-  fieldsIn,
-  fieldTests,
-  lineTests,
-  lineRefusal,
-  linePlace,
-  readLine,
-  lineValues,
+  start_frame,
+  line_kind,
+  fields_in,
+  field_tests,
+  line_tests,
+  line_refusal,
+  line_place,
+  read_line,
+  line_values,
 }
 use Rattle.meaning.specs.Journals.{
-  untilLF,
-  hasLF,
+  until_lf,
+  has_lf,
   unended,
   line_at,
-  placeAfter,
-  nextIn,
-  stepsFrom,
+  place_after,
+  next_in,
+  steps_from,
   journal,
-  afterAll,
-  refusedOf,
+  after_all,
+  refused_of,
   replayed,
-  replayAfter,
-  decimalIn,
+  replay_after,
+  decimal_in,
   decimal,
   spaced,
   said,
-  nodeLine,
-  nodeLines,
+  node_line,
+  node_lines,
   printed,
 }
 use Rattle.meaning.specs.Verdicts.{
-  classOf,
+  class_of,
   among,
   different,
-  pairsOf,
+  pairs_of,
   scrubbed,
   touched,
   gap,
   counted,
-  countRefusal,
-  verdictCount,
-  countValues,
+  count_refusal,
+  verdict_count,
+  count_values,
 }
-use Rattle.meaning.proofs.TableLaws.{facts-sound}
+use Rattle.meaning.proofs.TableLaws.{facts_sound}
 
 both_left : (a b : Bool) → T (a && b) → T a
 both_left true b h = tt
@@ -190,37 +190,37 @@ abbrev row : (name : String) (computed expected : List ℕ) → Holds name compu
 row name computed expected holds = record { name = name; computed = computed; expected = expected; holds = holds }
 
 -- the places at which two tables differ, each with its new word; 999,999 where their lengths do
-abbrev changeIf : Bool → ℕ → ℕ → List ℕ → List ℕ
-changeIf true i y r = r
-changeIf false i y r = i ∷ y ∷ r
+abbrev change_if : Bool → ℕ → ℕ → List ℕ → List ℕ
+change_if true i y r = r
+change_if false i y r = i ∷ y ∷ r
 
 changes : ℕ → List ℕ → List ℕ → List ℕ
 changes i [] [] = []
 changes i [] (y ∷ ys) = 999999 ∷ []
 changes i (x ∷ xs) [] = 999999 ∷ []
-changes i (x ∷ xs) (y ∷ ys) = changeIf (eqb x y) i y (changes (suc i) xs ys)
+changes i (x ∷ xs) (y ∷ ys) = change_if (eqb x y) i y (changes (suc i) xs ys)
 
 -- what an action does to a table: refusal, counts, changed words
 does : List ℕ → Action → List ℕ
-does t x = replyValues (reply t x) ++ changes 0 t (after t x)
+does t x = reply_values (reply t x) ++ changes 0 t (after t x)
 
 -- the same of the first 1,041 words, in which all that two nodes on vectors have stands, but for their marks
 settles : List ℕ → Action → List ℕ
-settles t x = replyValues (reply t x) ++ changes 0 (part 0 1041 t) (part 0 1041 (after t x))
+settles t x = reply_values (reply t x) ++ changes 0 (part 0 1041 t) (part 0 1041 (after t x))
 
 -- what it answers alone
 answers : List ℕ → Action → List ℕ
-answers t x = replyValues (reply t x)
+answers t x = reply_values (reply t x)
 
 refused : ℕ → List ℕ
 refused k = k ∷ 0 ∷ 0 ∷ []
 
 -- a delivery of p into a list of k words, each 7: refusal, count, changed words of the table, then the list; and the same without the table
 gives : List ℕ → ℕ → ℕ → List ℕ
-gives t k p = replyValues (lentReply t k (Deliver p)) ++ (changes 0 t (lentAfter t k (Deliver p)) ++ listAfter t (replicate k 7) p)
+gives t k p = reply_values (lent_reply t k (Deliver p)) ++ (changes 0 t (lent_after t k (Deliver p)) ++ list_after t (replicate k 7) p)
 
 lends : List ℕ → ℕ → ℕ → List ℕ
-lends t k p = replyValues (lentReply t k (Deliver p)) ++ listAfter t (replicate k 7) p
+lends t k p = reply_values (lent_reply t k (Deliver p)) ++ list_after t (replicate k 7) p
 
 -- A table of n written down, in one walk where each step that leads to it takes several: its pieces, in the order of their places, and zeros
 spread : ℕ → List Piece → ℕ → List ℕ
@@ -228,7 +228,7 @@ spread i [] end = replicate (end - i) 0
 spread i (x ∷ xs) end = replicate (x.at - i) 0 ++ (x.new ++ spread (x.at + length x.new) xs end)
 
 table : Form → ℕ → List Piece → List ℕ
-table f n xs = n ∷ spread 1 xs (formWords f)
+table f n xs = n ∷ spread 1 xs (form_words f)
 
 -- a word beyond n entries, n columns, n nodes or the held number, which no step names, is 7
 abbrev more : List ℕ → List ℕ
@@ -238,32 +238,32 @@ more ws = ws ++ (7 ∷ [])
 pair : List ℕ → List ℕ → List ℕ → List ℕ → List ℕ → List ℕ → ℕ → List ℕ
 pair s a l s' a' l' m =
     table Vectors 2
-    (piece (summaryAt Vectors 0) (more s) ∷
-    piece (summaryAt Vectors 1) (more s') ∷
-    piece (acksAt 0) (more a) ∷
-    piece (acksAt 1) (more a') ∷
-    piece (heldAt Vectors 0) (more (length l / 4 ∷ length l' / 4 ∷ [])) ∷
+    (piece (summary_at Vectors 0) (more s) ∷
+    piece (summary_at Vectors 1) (more s') ∷
+    piece (acks_at 0) (more a) ∷
+    piece (acks_at 1) (more a') ∷
+    piece (held_at Vectors 0) (more (length l / 4 ∷ length l' / 4 ∷ [])) ∷
     piece (log_at Vectors 0) (more l) ∷
     piece (log_at Vectors 1) (more l') ∷
     piece (log_at Vectors 2) (more []) ∷
-    piece (markAt Vectors 0) (m ∷ []) ∷
+    piece (mark_at Vectors 0) (m ∷ []) ∷
     [])
 
 -- two nodes on columns: node 0's columns and log; all that node 1 has is 0
 sole : List ℕ → List ℕ → List ℕ → List ℕ
 sole c c' l =
     table Columns 2
-    (piece (columnAt 0 0) (more c) ∷
-    piece (columnAt 0 1) (more c') ∷
-    piece (columnAt 0 2) (more []) ∷
-    piece (columnAt 2 0) (more []) ∷
-    piece (heldAt Columns 0) (more (length l / 4 ∷ 0 ∷ [])) ∷
+    (piece (column_at 0 0) (more c) ∷
+    piece (column_at 0 1) (more c') ∷
+    piece (column_at 0 2) (more []) ∷
+    piece (column_at 2 0) (more []) ∷
+    piece (held_at Columns 0) (more (length l / 4 ∷ 0 ∷ [])) ∷
     piece (log_at Columns 0) (more l) ∷
     [])
 
 -- a fresh table of n whose node 0 has these acknowledgements
 abbrev acked : ℕ → List ℕ → List ℕ
-acked n row = table Vectors n (piece (acksAt 0) row ∷ [])
+acked n row = table Vectors n (piece (acks_at 0) row ∷ [])
 
 -- a node by itself, of vectors (summary, acknowledgements, log) and of columns (its number, columns, log)
 vectored : List ℕ → List ℕ → List ℕ → Node
@@ -282,7 +282,7 @@ entries x = x.summary ++ (x.acks ++ joined x.columns)
 
 -- who lags, of a node with these acknowledgements
 lags : List ℕ → List ℕ
-lags a = leastAt (lows Vectors (vectored [] a [])) ∷ []
+lags a = least_at (lows Vectors (vectored [] a [])) ∷ []
 
 -- what a delivery gives, the mark being 0
 delivers : Node → List ℕ
@@ -290,7 +290,7 @@ delivers x = words (given 0 x)
 
 -- T-06: who lags, and what a purge of a node of columns leaves
 clears : Node → List ℕ
-clears x = leastAt (lows Columns x) ∷ words (purged (leaves Columns 0 x) x).log
+clears x = least_at (lows Columns x) ∷ words (purged (leaves Columns 0 x) x).log
 
 -- T-06: refusal 6, or none, of a side that holds k records (each of origin 0 and timestamp 0) and to which one comes: what `refusals` asks of both sides
 overfills : ℕ → List ℕ
@@ -301,22 +301,22 @@ overfills k =
 
 -- what making a table of n does to some words: refusal and the first three words
 makes : List ℕ → ℕ → List ℕ
-makes t n = freshRefusal t n ∷ part 0 3 (madeFresh t n)
+makes t n = fresh_refusal t n ∷ part 0 3 (made_fresh t n)
 
 -- some records counted: refusal, scrubbed, touched, gap
 counts : List ℕ → List ℕ
-counts w = countValues (verdictCount w)
+counts w = count_values (verdict_count w)
 
 -- one record of this verdict
 verdict : ℕ → List ℕ
 verdict v = counts (0 ∷ 1 ∷ 16 ∷ v ∷ [])
 
 line : String → List ℕ
-line s = lineValues (readLine 1 (ascii s))
+line s = line_values (read_line 1 (ascii s))
 
 -- what the program prints of a journal
 replays : String → List ℕ
-replays s = printed (replayed (ascii s)) (replayAfter [] (ascii s))
+replays s = printed (replayed (ascii s)) (replay_after [] (ascii s))
 
 example : String
 example = "0002FE\n0100000000050000001010DA\n020001000000060000000403F0\n020001000000070000000701EE\n0300FD\n020001000000080000000803EA\n0300FD\n"
@@ -327,14 +327,14 @@ told =
     "0002FE\n0100000000050000001010DA\n020001000000060000000403F0\n020001000000070000000701EE\n0300FD\n020001000000080000000803EA\n0500FB\n0300FD\n"
 
 pub rows : List Row
-unfolding every all keep least leastAt raise covers newer above due earlier inserted inOrder recordAt records words part place form_of count held mark
-    columnsFrom node lay columnPieces pieces putNode putMark fresh freshRefusal madeFresh recordSound logSound sound own wrote opened raiseEach learnt finished
-    purged limitOf leaves lows waiting given raised refusals refusal limit leaving lagging acted reported reply after dueOf lentRefusals
-    lentRefusal lentReply lentAfter listAfter digit digitValue spelled bytes_of allDigits strayAt total
-    check journalKinds known_in widthsIn digitsIn fieldPlaceIn highFirst number packed unpacked actionOf sealed frameIn frame startFrame lineKind
-    fieldsIn first firstPlace fieldTests lineTests lineRefusal linePlace readLine untilLF hasLF unended line_at placeAfter nextIn stepsFrom journal
-    afterAll refusedOf replayed replayAfter decimalIn decimal spaced said nodeLine nodeLines printed classOf among different pairsOf
-    scrubbed touched gap counted countRefusal verdictCount counts changes does settles answers refused gives lends spread table pair sole vectored columned
+unfolding every all keep least least_at raise covers newer above due earlier inserted in_order record_at records words part place form_of count held mark
+    columns_from node lay column_pieces pieces put_node put_mark fresh fresh_refusal made_fresh record_sound log_sound sound own wrote opened raise_each learnt finished
+    purged limit_of leaves lows waiting given raised refusals refusal limit leaving lagging acted reported reply after due_of lent_refusals
+    lent_refusal lent_reply lent_after list_after digit digit_value spelled bytes_of all_digits stray_at total
+    check journal_kinds known_in widths_in digits_in field_place_in high_first number packed unpacked action_of sealed frame_in frame start_frame line_kind
+    fields_in first first_place field_tests line_tests line_refusal line_place read_line until_lf has_lf unended line_at place_after next_in steps_from journal
+    after_all refused_of replayed replay_after decimal_in decimal spaced said node_line node_lines printed class_of among different pairs_of
+    scrubbed touched gap counted count_refusal verdict_count counts changes does settles answers refused gives lends spread table pair sole vectored columned
     joined entries lags delivers clears overfills makes verdict line replays example told same Holds
 rows =
     -- the tables that rows begin from, each computed once
@@ -346,13 +346,13 @@ rows =
     -- they are held, and every acknowledgement is 5
     let five : List ℕ = pair (6 ∷ 5 ∷ []) (5 ∷ 5 ∷ []) both (6 ∷ 5 ∷ []) (5 ∷ 5 ∷ []) both 0 in
     -- the same after a delivery, so that the mark is 5
-    let fiveTold : List ℕ = pair (6 ∷ 5 ∷ []) (5 ∷ 5 ∷ []) both (6 ∷ 5 ∷ []) (5 ∷ 5 ∷ []) both 5 in
+    let five_told : List ℕ = pair (6 ∷ 5 ∷ []) (5 ∷ 5 ∷ []) both (6 ∷ 5 ∷ []) (5 ∷ 5 ∷ []) both 5 in
     -- every acknowledgement is 6, and node 0 delivered before 6 was written
-    let sixTold : List ℕ = pair (6 ∷ 6 ∷ []) (6 ∷ 6 ∷ []) both (6 ∷ 6 ∷ []) (6 ∷ 6 ∷ []) both 5 in
+    let six_told : List ℕ = pair (6 ∷ 6 ∷ []) (6 ∷ 6 ∷ []) both (6 ∷ 6 ∷ []) (6 ∷ 6 ∷ []) both 5 in
     -- node 0 has acknowledged 8, delivered, and knows node 1 to be at 6
     let behind : List ℕ = pair (9 ∷ 8 ∷ []) (8 ∷ 6 ∷ []) both (9 ∷ 9 ∷ []) (5 ∷ 9 ∷ []) both 8 in
     -- the same when node 0 has purged and then written at 10
-    let behindStill : List ℕ = pair (10 ∷ 8 ∷ []) (8 ∷ 6 ∷ []) (0 ∷ 10 ∷ 18 ∷ 0x20 ∷ []) (9 ∷ 9 ∷ []) (5 ∷ 9 ∷ []) both 8 in
+    let behind_still : List ℕ = pair (10 ∷ 8 ∷ []) (8 ∷ 6 ∷ []) (0 ∷ 10 ∷ 18 ∷ 0x20 ∷ []) (9 ∷ 9 ∷ []) (5 ∷ 9 ∷ []) both 8 in
     -- both wrote at 5, and node 1 holds its own first
     let tied : List ℕ = pair (5 ∷ 5 ∷ []) (0 ∷ 0 ∷ []) [] (5 ∷ 5 ∷ []) (0 ∷ 0 ∷ []) (1 ∷ 5 ∷ 17 ∷ 0x20 ∷ 0 ∷ 5 ∷ 16 ∷ 0x20 ∷ []) 0 in
     -- node 1 holds a record that no summary covers: a sound table that no run reaches
@@ -364,9 +364,9 @@ rows =
     -- T-06: a fresh table of 2 with columns
     let wide : List ℕ = fresh Columns 2 in
     -- node 0 wrote at 1
-    let wideOne : List ℕ = sole (1 ∷ 0 ∷ []) (0 ∷ 0 ∷ []) (0 ∷ 1 ∷ 16 ∷ 0x20 ∷ []) in
+    let wide_one : List ℕ = sole (1 ∷ 0 ∷ []) (0 ∷ 0 ∷ []) (0 ∷ 1 ∷ 16 ∷ 0x20 ∷ []) in
     -- node 0 holds 5 and 6, and knows itself to be at 6 and node 1 at 5
-    let wideKnown : List ℕ = sole (6 ∷ 6 ∷ []) (5 ∷ 5 ∷ []) both in
+    let wide_known : List ℕ = sole (6 ∷ 6 ∷ []) (5 ∷ 5 ∷ []) both in
     row "write at 0" (does two (Write 0 0 16 0x20)) (refused 5) tt ∷
     row "write at 1" (does two (Write 0 1 16 0x20)) (0 ∷ 0 ∷ 0 ∷ 1 ∷ 1 ∷ 513 ∷ 1 ∷ 530 ∷ 1 ∷ 531 ∷ 16 ∷ 532 ∷ 0x20 ∷ []) tt ∷
     row "a second write at 1" (answers one (Write 0 1 17 0x20)) (refused 5) tt ∷
@@ -395,12 +395,12 @@ rows =
     (0 ∷ 0 ∷ 0 ∷ 1 ∷ 9 ∷ 2 ∷ 8 ∷ 17 ∷ 9 ∷ 18 ∷ 8 ∷ 258 ∷ 6 ∷ 274 ∷ 6 ∷ []) tt ∷
     row "b compares with what a began with: its own record does not come back" (settles odd (Session 0 1 0 0 3))
     (0 ∷ 1 ∷ 0 ∷ 513 ∷ 1 ∷ 529 ∷ 0 ∷ 530 ∷ 9 ∷ 531 ∷ 16 ∷ 532 ∷ 0x20 ∷ []) tt ∷
-    row "smallest acknowledgement 5 removes 5, once delivered, and keeps 6" (does fiveTold (Purge 0))
+    row "smallest acknowledgement 5 removes 5, once delivered, and keeps 6" (does five_told (Purge 0))
     (0 ∷ 1 ∷ 0 ∷ 513 ∷ 1 ∷ 530 ∷ 6 ∷ 531 ∷ 17 ∷ 534 ∷ 0 ∷ 535 ∷ 0 ∷ 536 ∷ 0 ∷ []) tt ∷
     row "without a delivery the mark is 0 and a purge removes nothing" (answers five (Purge 0)) (0 ∷ 0 ∷ 0 ∷ []) tt ∷
-    row "every acknowledgement 6: mark 5 removes 5 and keeps 6" (answers sixTold (Purge 0)) (0 ∷ 1 ∷ 0 ∷ []) tt ∷
+    row "every acknowledgement 6: mark 5 removes 5 and keeps 6" (answers six_told (Purge 0)) (0 ∷ 1 ∷ 0 ∷ []) tt ∷
     row "a delivery: 5 is at the smallest entry and is due, 6 is one above and is not" (does five (Deliver 0)) (0 ∷ 1 ∷ 0 ∷ 4625 ∷ 5 ∷ []) tt ∷
-    row "a second delivery: 5 is at the mark and is not due" (answers fiveTold (Deliver 0)) (0 ∷ 0 ∷ 0 ∷ []) tt ∷
+    row "a second delivery: 5 is at the mark and is not due" (answers five_told (Deliver 0)) (0 ∷ 0 ∷ 0 ∷ []) tt ∷
     row "none due, and an empty list" (lends two 0 1) (0 ∷ 0 ∷ 0 ∷ []) tt ∷
     row "one due: its four words, and the rest of the list stays" (lends five 5 0) (0 ∷ 1 ∷ 0 ∷ 0 ∷ 5 ∷ 16 ∷ 0x20 ∷ 7 ∷ []) tt ∷
     row "the other node has a mark of its own" (gives five 4 1) (0 ∷ 1 ∷ 0 ∷ 4626 ∷ 5 ∷ 0 ∷ 5 ∷ 16 ∷ 0x20 ∷ []) tt ∷
@@ -425,7 +425,7 @@ rows =
     row "16 nodes, the last lags" (answers (acked 16 (9 ∷ 9 ∷ 9 ∷ 9 ∷ 9 ∷ 9 ∷ 9 ∷ 9 ∷ 9 ∷ 9 ∷ 9 ∷ 9 ∷ 9 ∷ 9 ∷ 9 ∷ 8 ∷ [])) (Purge 0)) (0 ∷ 0 ∷ 15 ∷ []) tt ∷
     row "16 nodes, two lag" (lags (9 ∷ 9 ∷ 9 ∷ 9 ∷ 9 ∷ 9 ∷ 9 ∷ 3 ∷ 9 ∷ 9 ∷ 9 ∷ 3 ∷ 9 ∷ 9 ∷ 9 ∷ 8 ∷ [])) (7 ∷ []) tt ∷
     row "a purge that removes some tells who lags" (answers behind (Purge 0)) (0 ∷ 2 ∷ 1 ∷ []) tt ∷
-    row "and so does one that removes nothing" (answers behindStill (Purge 0)) (0 ∷ 0 ∷ 1 ∷ []) tt ∷
+    row "and so does one that removes nothing" (answers behind_still (Purge 0)) (0 ∷ 0 ∷ 1 ∷ []) tt ∷
     row "a purge refused with 3 has node 0" (answers (acked 2 (5 ∷ 4 ∷ [])) (Purge 2)) (3 ∷ 0 ∷ 0 ∷ []) tt ∷
     row "a purge refused with 1 has node 0" (answers (acked 17 (5 ∷ 4 ∷ [])) (Purge 0)) (1 ∷ 0 ∷ 0 ∷ []) tt ∷
     row "0002FE" (line "0002FE") (0 ∷ 0 ∷ 0 ∷ 2 ∷ []) tt ∷
@@ -433,9 +433,9 @@ rows =
     row "0002fe" (line "0002fe") (12 ∷ 4 ∷ []) tt ∷
     row "an empty line" (line "") (18 ∷ 0 ∷ []) tt ∷
     row "000" (line "000") (18 ∷ 3 ∷ []) tt ∷
-    row "a lower-case digit first" (line "a002FE") (12 ∷ 0 ∷ []) tt ∷
-    row "a lower-case digit in the middle" (line "00a2FE") (12 ∷ 2 ∷ []) tt ∷
-    row "a lower-case digit last" (line "0002Fe") (12 ∷ 5 ∷ []) tt ∷
+    row "a lower_case digit first" (line "a002FE") (12 ∷ 0 ∷ []) tt ∷
+    row "a lower_case digit in the middle" (line "00a2FE") (12 ∷ 2 ∷ []) tt ∷
+    row "a lower_case digit last" (line "0002Fe") (12 ∷ 5 ∷ []) tt ∷
     row "a stray character before an odd number of digits" (line "030g0") (12 ∷ 3 ∷ []) tt ∷
     row "a slash, the character before 0" (line "0/02FE") (12 ∷ 1 ∷ []) tt ∷
     row "a colon, the character after 9" (line "0:02FE") (12 ∷ 1 ∷ []) tt ∷
@@ -478,15 +478,15 @@ rows =
     row "columns: write at 0" (does wide (Write 0 0 16 0x20)) (refused 5) tt ∷
     row "columns: write at 1" (does wide (Write 0 1 16 0x20)) (0 ∷ 0 ∷ 0 ∷ 1 ∷ 1 ∷ 4097 ∷ 1 ∷ 4114 ∷ 1 ∷ 4115 ∷ 16 ∷ 4116 ∷ 0x20 ∷ []) tt ∷
     row "columns: both take the greater starting values, their own column also the partner's own; what is beyond n takes no part"
-    (does wideOne (Session 0 1 1 9 3))
+    (does wide_one (Session 0 1 1 9 3))
     (0 ∷ 0 ∷ 1 ∷ 2 ∷ 9 ∷ 18 ∷ 9 ∷ 257 ∷ 1 ∷ 273 ∷ 1 ∷ 274 ∷ 9 ∷ 4098 ∷ 1 ∷ 4370 ∷ 1 ∷ 4371 ∷ 16 ∷ 4372 ∷ 0x20 ∷ []) tt ∷
     row "columns: a side that finishes takes a third node's column, and in its own the partner's column for it; one that is cut keeps its own entry alone"
     (let a = opened 0 1 (columned 0 ((0 ∷ 0 ∷ 0 ∷ []) ∷ (0 ∷ 0 ∷ 0 ∷ []) ∷ (0 ∷ 0 ∷ 0 ∷ []) ∷ []) []) in
     let b = opened 1 3 (columned 1 ((0 ∷ 7 ∷ 0 ∷ []) ∷ (0 ∷ 0 ∷ 0 ∷ []) ∷ (4 ∷ 5 ∷ 6 ∷ []) ∷ []) []) in
     entries (ended true 0 a b) ++ entries (ended false 1 b a))
     (1 ∷ 7 ∷ 0 ∷ 1 ∷ 7 ∷ 0 ∷ 0 ∷ 3 ∷ 0 ∷ 4 ∷ 5 ∷ 6 ∷ 0 ∷ 3 ∷ 0 ∷ 0 ∷ 7 ∷ 0 ∷ 0 ∷ 3 ∷ 0 ∷ 4 ∷ 5 ∷ 6 ∷ []) tt ∷
-    row "columns: reading 0 after a write at 1" (answers wideOne (Session 0 1 0 0 3)) (refused 5) tt ∷
-    row "columns: every column has 5: 5 leaves, without a delivery, and 6 stays" (does wideKnown (Purge 0))
+    row "columns: reading 0 after a write at 1" (answers wide_one (Session 0 1 0 0 3)) (refused 5) tt ∷
+    row "columns: every column has 5: 5 leaves, without a delivery, and 6 stays" (does wide_known (Purge 0))
     (0 ∷ 1 ∷ 1 ∷ 4097 ∷ 1 ∷ 4114 ∷ 6 ∷ 4115 ∷ 17 ∷ 4118 ∷ 0 ∷ 4119 ∷ 0 ∷ 4120 ∷ 0 ∷ []) tt ∷
     row "columns: the own column has 4, the other column has 3: 5 stays; the entries for another origin are not asked; of two columns the first is told"
     (clears
@@ -522,7 +522,7 @@ rows =
     row "a verdict that is no byte" (verdict 256) (1 ∷ 0 ∷ 0 ∷ 0 ∷ []) tt ∷
     row "a list of three words" (counts (0 ∷ 1 ∷ 16 ∷ [])) (1 ∷ 0 ∷ 0 ∷ 0 ∷ []) tt ∷
     row "document 01's journal, printed" (replays example) (ascii "N 2 STEPS 6 REFUSED 0\n0 S 8 8 K 7 6 L 1\n1 S 8 8 K 7 6 L 1\n") tt ∷
-    row "the same with a delivery before its last line" (nodeLines 2 (replayAfter [] (ascii told)))
+    row "the same with a delivery before its last line" (node_lines 2 (replay_after [] (ascii told)))
     (ascii "0 S 8 8 K 7 6 L 0\n1 S 8 8 K 7 6 L 1\n") tt ∷
     row "an empty journal" (replays "") (ascii "BAD 1 15 0\n") tt ∷
     row "bytes without LF" (replays "0002FE") (ascii "BAD 1 14 6\n") tt ∷
@@ -536,21 +536,21 @@ rows =
     row "a journal that is too long" (printed (Unread 16) []) (ascii "BAD 0 16\n") tt ∷
     []
 
-same-eq : (xs ys : List ℕ) → T (same xs ys) → xs ≡ ys
+same_eq : (xs ys : List ℕ) → T (same xs ys) → xs ≡ ys
 unfolding same
-same-eq [] [] h = refl
-same-eq [] (y ∷ ys) h = absurd h
-same-eq (x ∷ xs) [] h = absurd h
-same-eq (x ∷ xs) (y ∷ ys) h =
+same_eq [] [] h = refl
+same_eq [] (y ∷ ys) h = absurd h
+same_eq (x ∷ xs) [] h = absurd h
+same_eq (x ∷ xs) (y ∷ ys) h =
     let p = eqb→eq x y (both_left (eqb x y) (same xs ys) h) in
-    let q = same-eq xs ys (both_right (eqb x y) (same xs ys) h) in
+    let q = same_eq xs ys (both_right (eqb x y) (same xs ys) h) in
     cc
 
 all_hold : (rs : List Row) → map (λ (r : Row). r.computed) rs ≡ map (λ (r : Row). r.expected) rs
 unfolding Holds
 all_hold [] = refl
 all_hold (r ∷ rs) =
-    let p = same-eq r.computed r.expected r.holds in
+    let p = same_eq r.computed r.expected r.holds in
     let q = all_hold rs in
     cc
 
@@ -566,5 +566,5 @@ itself t s p h ca cb outcome = go (ltb 3 outcome) refl
   where
     go : (b : Bool) → ltb 3 outcome ≡ b
         → (reply t (Session p p ca cb outcome) ≡ Refused (cond (ltb 3 outcome) 2 4)) × (after t (Session p p ca cb outcome) ≡ t)
-    go true e = rw (facts-sound t s, e) (refl, refl)
-    go false e = rw (facts-sound t s, e, lt-leb (count t) p h, eq-eqb p p refl) (refl, refl)
+    go true e = rw (facts_sound t s, e) (refl, refl)
+    go false e = rw (facts_sound t s, e, lt-leb (count t) p h, eq-eqb p p refl) (refl, refl)

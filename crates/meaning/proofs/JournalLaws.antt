@@ -14,160 +14,160 @@ use Rattle.meaning.specs.declared.Line.{Line}
 use Rattle.meaning.specs.declared.Line.TheVariants.{Begin, Act, Refused}
 use Rattle.meaning.specs.declared.Next.{Next}
 use Rattle.meaning.specs.declared.Next.TheVariants.{Begin as BeginAt, Act as ActAt, Refused as RefusedAt, End}
-use Rattle.meaning.specs.Frames.{bytes_of, lineKind, lineRefusal, linePlace, meant, lineIs, readLine}
-use Rattle.meaning.specs.Journals.{unlessLF, untilLF, hasLF, unended, line_at, placeAfter, in_turn, nextIn, none, broken, step∷, stepsFrom}
+use Rattle.meaning.specs.Frames.{bytes_of, line_kind, line_refusal, line_place, meant, line_is, read_line}
+use Rattle.meaning.specs.Journals.{unless_lf, until_lf, has_lf, unended, line_at, place_after, in_turn, next_in, none, broken, step∷, steps_from}
 
 -- an LF at a place; another byte there; nothing at the end or beyond
 module _ (s : List ℕ) (i : ℕ) (h : i < length s) where
-  from-here : drop i s ≡ get_or s i 0 ∷ drop (i + 1) s
-  from-here = rw add-one (drop-cons s i 0 h)
+  from_here : drop i s ≡ get_or s i 0 ∷ drop (i + 1) s
+  from_here = rw add-one (drop-cons s i 0 h)
 
-  pub has_here : get_or s i 0 ≡ 10 → hasLF (drop i s) ≡ true
-  unfolding hasLF
-  has_here e = rw (from-here, e)
+  pub has_here : get_or s i 0 ≡ 10 → has_lf (drop i s) ≡ true
+  unfolding has_lf
+  has_here e = rw (from_here, e)
 
-  pub until-here : get_or s i 0 ≡ 10 → untilLF (drop i s) ≡ []
-  unfolding untilLF
-  until-here e = rw (from-here, e)
+  pub until_here : get_or s i 0 ≡ 10 → until_lf (drop i s) ≡ []
+  unfolding until_lf
+  until_here e = rw (from_here, e)
 
-  pub has-past : (get_or s i 0 ≡ 10 → ⊥) → hasLF (drop i s) ≡ hasLF (drop (i + 1) s)
-  unfolding hasLF
-  has-past n = rw (from-here, ne_eqb (get_or s i 0) 10 n)
+  pub has_past : (get_or s i 0 ≡ 10 → ⊥) → has_lf (drop i s) ≡ has_lf (drop (i + 1) s)
+  unfolding has_lf
+  has_past n = rw (from_here, ne_eqb (get_or s i 0) 10 n)
 
-  pub until-past : (get_or s i 0 ≡ 10 → ⊥) → length (untilLF (drop i s)) ≡ length (untilLF (drop (i + 1) s)) + 1
-  unfolding untilLF
-  until-past n = rw (from-here, ne_eqb (get_or s i 0) 10 n) (sym (add-one (length (untilLF (drop (i + 1) s)))))
+  pub until_past : (get_or s i 0 ≡ 10 → ⊥) → length (until_lf (drop i s)) ≡ length (until_lf (drop (i + 1) s)) + 1
+  unfolding until_lf
+  until_past n = rw (from_here, ne_eqb (get_or s i 0) 10 n) (sym (add-one (length (until_lf (drop (i + 1) s)))))
 
-pub has-none : (s : List ℕ) (i : ℕ) → length s ≤ i → hasLF (drop i s) ≡ false
-unfolding hasLF
+pub has-none : (s : List ℕ) (i : ℕ) → length s ≤ i → has_lf (drop i s) ≡ false
+unfolding has_lf
 has-none s i h = rw (drop_of_length-le s h)
 
 -- the line is the front of what is left, and shorter than it where an LF follows
-pub until_front : (l : List ℕ) → take (length (untilLF l)) l ≡ untilLF l
-unfolding untilLF
+pub until_front : (l : List ℕ) → take (length (until_lf l)) l ≡ until_lf l
+unfolding until_lf
 until_front [] = refl
 until_front (c ∷ cs) = go (eqb c 10) (until_front cs)
   where
-    go : (b : Bool) → take (length (untilLF cs)) cs ≡ untilLF cs → take (length (unlessLF b c (untilLF cs))) (c ∷ cs) ≡ unlessLF b c (untilLF cs)
+    go : (b : Bool) → take (length (until_lf cs)) cs ≡ until_lf cs → take (length (unless_lf b c (until_lf cs))) (c ∷ cs) ≡ unless_lf b c (until_lf cs)
     go true p = refl
     go false p = ap (λ (l : List ℕ). c ∷ l) p
 
-pub until-short : (l : List ℕ) → hasLF l ≡ true → length (untilLF l) < length l
-unfolding untilLF hasLF
-until-short [] e = let z : ◌≡◌ {A = ℕ} 0 1 = cc in omega arith
-until-short (c ∷ cs) e = go (eqb c 10) e (until-short cs)
+pub until_short : (l : List ℕ) → has_lf l ≡ true → length (until_lf l) < length l
+unfolding until_lf has_lf
+until_short [] e = let z : ◌≡◌ {A = ℕ} 0 1 = cc in omega arith
+until_short (c ∷ cs) e = go (eqb c 10) e (until_short cs)
   where
-    go : (b : Bool) → (b || hasLF cs) ≡ true → (hasLF cs ≡ true → length (untilLF cs) < length cs) → length (unlessLF b c (untilLF cs)) < length (c ∷ cs)
+    go : (b : Bool) → (b || has_lf cs) ≡ true → (has_lf cs ≡ true → length (until_lf cs) < length cs) → length (unless_lf b c (until_lf cs)) < length (c ∷ cs)
     go true p q = omega arith
     go false p q = let r = q p in omega arith
 
 -- the line at a place, where an LF follows and where none does
-pub line-ended : (s : List ℕ) (at : ℕ) → hasLF (drop at s) ≡ true → line_at s at ≡ untilLF (drop at s)
+pub line_ended : (s : List ℕ) (at : ℕ) → has_lf (drop at s) ≡ true → line_at s at ≡ until_lf (drop at s)
 unfolding line_at
-line-ended s at e = rw e
+line_ended s at e = rw e
 
-pub line-none : (s : List ℕ) (at : ℕ) → hasLF (drop at s) ≡ false → line_at s at ≡ []
+pub line_none : (s : List ℕ) (at : ℕ) → has_lf (drop at s) ≡ false → line_at s at ≡ []
 unfolding line_at
-line-none s at e = rw e
+line_none s at e = rw e
 
-pub ended : (s : List ℕ) (at : ℕ) → hasLF (drop at s) ≡ true → unended s at ≡ false
+pub ended : (s : List ℕ) (at : ℕ) → has_lf (drop at s) ≡ true → unended s at ≡ false
 unfolding unended
 ended s at e = go (ltb at (length s))
   where
-    go : (b : Bool) → (b && not (hasLF (drop at s))) ≡ false
+    go : (b : Bool) → (b && not (has_lf (drop at s))) ≡ false
     go true = rw e
     go false = refl
 
-pub not-ended : (s : List ℕ) (at : ℕ) → at < length s → hasLF (drop at s) ≡ false → unended s at ≡ true
+pub not_ended : (s : List ℕ) (at : ℕ) → at < length s → has_lf (drop at s) ≡ false → unended s at ≡ true
 unfolding unended
-not-ended s at h e = rw (lt-ltb at (length s) h, e)
+not_ended s at h e = rw (lt-ltb at (length s) h, e)
 
 -- the steps from a place on, by what stands there
 module _ (k : ℕ) (s : List ℕ) (at line : ℕ) where
-  pub steps-act : {x : Step} {next : ℕ} → nextIn false s at line ≡ ActAt x next → stepsFrom (suc k) s at line ≡ step∷ x (stepsFrom k s next (line + 1))
-  unfolding stepsFrom
-  steps-act e = rw (e, stepsFrom)
+  pub steps_act : {x : Step} {next : ℕ} → next_in false s at line ≡ ActAt x next → steps_from (suc k) s at line ≡ step∷ x (steps_from k s next (line + 1))
+  unfolding steps_from
+  steps_act e = rw (e, steps_from)
 
-  pub steps-begin : {n next : ℕ} → nextIn false s at line ≡ BeginAt n next → stepsFrom (suc k) s at line ≡ broken at line 15 0
-  unfolding stepsFrom
-  steps-begin e = rw (e, stepsFrom)
+  pub steps_begin : {n next : ℕ} → next_in false s at line ≡ BeginAt n next → steps_from (suc k) s at line ≡ broken at line 15 0
+  unfolding steps_from
+  steps_begin e = rw (e, steps_from)
 
-  pub steps-refused : {j p : ℕ} → nextIn false s at line ≡ RefusedAt j p → stepsFrom (suc k) s at line ≡ broken at line j p
-  unfolding stepsFrom
-  steps-refused e = rw (e, stepsFrom)
+  pub steps_refused : {j p : ℕ} → next_in false s at line ≡ RefusedAt j p → steps_from (suc k) s at line ≡ broken at line j p
+  unfolding steps_from
+  steps_refused e = rw (e, steps_from)
 
-pub steps-end : (k : ℕ) (s : List ℕ) (at line : ℕ) → nextIn false s at line ≡ End → stepsFrom k s at line ≡ none at
-unfolding stepsFrom
-steps-end zero s at line e = refl
-steps-end (suc k) s at line e = rw (e, stepsFrom)
+pub steps_end : (k : ℕ) (s : List ℕ) (at line : ℕ) → next_in false s at line ≡ End → steps_from k s at line ≡ none at
+unfolding steps_from
+steps_end zero s at line e = refl
+steps_end (suc k) s at line e = rw (e, steps_from)
 
 -- the steps are no more than their bound, and a refused line is the next after them
-pub steps-few : (k : ℕ) (s : List ℕ) (at line : ℕ) → length (stepsFrom k s at line).steps ≤ k
-unfolding stepsFrom
-steps-few zero s at line = omega arith
-steps-few (suc k) s at line = go (nextIn false s at line) refl (λ next. steps-few k s next (line + 1))
+pub steps_few : (k : ℕ) (s : List ℕ) (at line : ℕ) → length (steps_from k s at line).steps ≤ k
+unfolding steps_from
+steps_few zero s at line = omega arith
+steps_few (suc k) s at line = go (next_in false s at line) refl (λ next. steps_few k s next (line + 1))
   where
-    go : (x : Next) → nextIn false s at line ≡ x → ((next : ℕ) → length (stepsFrom k s next (line + 1)).steps ≤ k)
-        → length (stepsFrom (suc k) s at line).steps ≤ suc k
-    go (BeginAt n next) e few = rw (steps-begin k s at line e) (omega arith)
-    go (ActAt x next) e few = let l = few next in rw (steps-act k s at line e) (omega arith)
-    go (RefusedAt j p) e few = rw (steps-refused k s at line e) (omega arith)
-    go End e few = rw (steps-end (suc k) s at line e) (omega arith)
+    go : (x : Next) → next_in false s at line ≡ x → ((next : ℕ) → length (steps_from k s next (line + 1)).steps ≤ k)
+        → length (steps_from (suc k) s at line).steps ≤ suc k
+    go (BeginAt n next) e few = rw (steps_begin k s at line e) (omega arith)
+    go (ActAt x next) e few = let l = few next in rw (steps_act k s at line e) (omega arith)
+    go (RefusedAt j p) e few = rw (steps_refused k s at line e) (omega arith)
+    go End e few = rw (steps_end (suc k) s at line e) (omega arith)
 
-pub bad-line : (k : ℕ) (s : List ℕ) (at line : ℕ) → 0 < (stepsFrom k s at line).badNumber
-    → (stepsFrom k s at line).badLine ≡ line + length (stepsFrom k s at line).steps
-unfolding stepsFrom
-bad-line zero s at line h = absurd (omega arith)
-bad-line (suc k) s at line h = go (nextIn false s at line) refl h (λ next. bad-line k s next (line + 1))
+pub bad_line_lem : (k : ℕ) (s : List ℕ) (at line : ℕ) → 0 < (steps_from k s at line).bad_number
+    → (steps_from k s at line).bad_line ≡ line + length (steps_from k s at line).steps
+unfolding steps_from
+bad_line_lem zero s at line h = absurd (omega arith)
+bad_line_lem (suc k) s at line h = go (next_in false s at line) refl h (λ next. bad_line_lem k s next (line + 1))
   where
-    go : (x : Next) → nextIn false s at line ≡ x → 0 < (stepsFrom (suc k) s at line).badNumber
-        → ((next : ℕ) → 0 < (stepsFrom k s next (line + 1)).badNumber
-        → (stepsFrom k s next (line + 1)).badLine ≡ line + 1 + length (stepsFrom k s next (line + 1)).steps)
-        → (stepsFrom (suc k) s at line).badLine ≡ line + length (stepsFrom (suc k) s at line).steps
-    go (BeginAt n next) e b rest = rw (steps-begin k s at line e) (omega arith)
+    go : (x : Next) → next_in false s at line ≡ x → 0 < (steps_from (suc k) s at line).bad_number
+        → ((next : ℕ) → 0 < (steps_from k s next (line + 1)).bad_number
+        → (steps_from k s next (line + 1)).bad_line ≡ line + 1 + length (steps_from k s next (line + 1)).steps)
+        → (steps_from (suc k) s at line).bad_line ≡ line + length (steps_from (suc k) s at line).steps
+    go (BeginAt n next) e b rest = rw (steps_begin k s at line e) (omega arith)
     go (ActAt x next) e b rest =
-        let d = steps-act k s at line e in
+        let d = steps_act k s at line e in
         let l = rest next (rw d at b) in
         rw d (omega arith)
-    go (RefusedAt j p) e b rest = rw (steps-refused k s at line e) (omega arith)
-    go End e b rest = absurd (let z : 0 < 0 = rw (steps-end (suc k) s at line e) at b in omega arith)
+    go (RefusedAt j p) e b rest = rw (steps_refused k s at line e) (omega arith)
+    go End e b rest = absurd (let z : 0 < 0 = rw (steps_end (suc k) s at line e) at b in omega arith)
 
 -- a line's refusal has a number
-abbrev lineNumbered : Line → Bool
-lineNumbered (Begin n) = true
-lineNumbered (Act x) = true
-lineNumbered (Refused k p) = ltb 0 k
+abbrev line_numbered : Line → Bool
+line_numbered (Begin n) = true
+line_numbered (Act x) = true
+line_numbered (Refused k p) = ltb 0 k
 
-meant-numbered : (line : ℕ) (bs : List ℕ) (b : Bool) (k p : ℕ) → lineNumbered (lineIs k p (meant line bs b)) ≡ true
-meant-numbered line bs true zero p = refl
-meant-numbered line bs false zero p = refl
-meant-numbered line bs b (suc k) p = lt-ltb 0 (suc k) (omega arith)
+meant_numbered : (line : ℕ) (bs : List ℕ) (b : Bool) (k p : ℕ) → line_numbered (line_is k p (meant line bs b)) ≡ true
+meant_numbered line bs true zero p = refl
+meant_numbered line bs false zero p = refl
+meant_numbered line bs b (suc k) p = lt-ltb 0 (suc k) (omega arith)
 
-abbrev pub nextNumbered : Next → Bool
-nextNumbered (BeginAt n next) = true
-nextNumbered (ActAt x next) = true
-nextNumbered (RefusedAt k p) = ltb 0 k
-nextNumbered End = true
+abbrev pub next_numbered : Next → Bool
+next_numbered (BeginAt n next) = true
+next_numbered (ActAt x next) = true
+next_numbered (RefusedAt k p) = ltb 0 k
+next_numbered End = true
 
-turn-numbered : (first : Bool) (next : ℕ) (l : Line) → lineNumbered l ≡ true → nextNumbered (in_turn first next l) ≡ true
-turn-numbered true next (Begin n) h = refl
-turn-numbered true next (Act x) h = refl
-turn-numbered true next (Refused k p) h = h
-turn-numbered false next (Begin n) h = refl
-turn-numbered false next (Act x) h = refl
-turn-numbered false next (Refused k p) h = h
+turn_numbered : (first : Bool) (next : ℕ) (l : Line) → line_numbered l ≡ true → next_numbered (in_turn first next l) ≡ true
+turn_numbered true next (Begin n) h = refl
+turn_numbered true next (Act x) h = refl
+turn_numbered true next (Refused k p) h = h
+turn_numbered false next (Begin n) h = refl
+turn_numbered false next (Act x) h = refl
+turn_numbered false next (Refused k p) h = h
 
-next-numbered : (first : Bool) (s : List ℕ) (at line : ℕ) → nextNumbered (nextIn first s at line) ≡ true
-unfolding nextIn readLine
-next-numbered first s at line = go (leb (length s) at) (unended s at) _
+next_numbered_lem : (first : Bool) (s : List ℕ) (at line : ℕ) → next_numbered (next_in first s at line) ≡ true
+unfolding next_in read_line
+next_numbered_lem first s at line = go (leb (length s) at) (unended s at) _
   where
     go : (a b : Bool) (p : ℕ) →
-        nextNumbered (cond a End (cond b (RefusedAt 14 p) (in_turn first (placeAfter s at) (readLine line (line_at s at))))) ≡ true
+        next_numbered (cond a End (cond b (RefusedAt 14 p) (in_turn first (place_after s at) (read_line line (line_at s at))))) ≡ true
     go true b p = refl
     go false true p = refl
     go false false p =
-        turn-numbered first (placeAfter s at) (readLine line (line_at s at))
-        (meant-numbered line (bytes_of (line_at s at)) (eqb (lineKind (bytes_of (line_at s at))) 0) (lineRefusal (line_at s at)) (linePlace (line_at s at)))
+        turn_numbered first (place_after s at) (read_line line (line_at s at))
+        (meant_numbered line (bytes_of (line_at s at)) (eqb (line_kind (bytes_of (line_at s at))) 0) (line_refusal (line_at s at)) (line_place (line_at s at)))
 
-pub refused-numbered : (first : Bool) (s : List ℕ) (at line k p : ℕ) → nextIn first s at line ≡ RefusedAt k p → 0 < k
-refused-numbered first s at line k p e = ltb-true 0 k (sym (ap nextNumbered e) ∙ next-numbered first s at line)
+pub refused_numbered : (first : Bool) (s : List ℕ) (at line k p : ℕ) → next_in first s at line ≡ RefusedAt k p → 0 < k
+refused_numbered first s at line k p e = ltb-true 0 k (sym (ap next_numbered e) ∙ next_numbered_lem first s at line)

@@ -13,28 +13,28 @@ use Rattle.meaning.specs.declared.Record.{Record}
 use Rattle.meaning.specs.Rows.{least, covers, due}
 use Rattle.meaning.specs.Table.{Form, Node}
 use Rattle.meaning.specs.Node.{wrote, opened, sent, finished, ended, purged, waiting, given, raised}
-use Rattle.meaning.specs.Account.{sameRecord, has, lacking, Account}
+use Rattle.meaning.specs.Account.{same_record, has, lacking, Account}
 use Rattle.meaning.proofs.RowLaws.{and_left, and_right, and_both}
 use Rattle.meaning.proofs.AccountLaws.{
-  by-test,
-  not-both,
-  same-eq,
+  by_test,
+  not_both,
+  same_eq,
   has-append,
   has_one,
   has-keep,
   has-lacking,
   has-newer,
-  once-keep,
-  keep-gone,
+  once_keep,
+  keep_gone,
   entry,
-  least-le,
-  le-covers,
-  lt-covers,
-  not-covers-lt,
+  least_le,
+  le_covers,
+  lt_covers,
+  not_covers_lt,
 }
-use Rattle.meaning.proofs.AccountInvariant.{log-written}
+use Rattle.meaning.proofs.AccountInvariant.{log_written}
 use Rattle.meaning.proofs.AccountSteps.{Whole, taken}
-use Rattle.meaning.proofs.OrderLaws.{before-time, Rising, has-inOrder, rising-append, rising-inOrder}
+use Rattle.meaning.proofs.OrderLaws.{before_time, Rising, has-in_order, rising_append, rising_in_order}
 
 -- A mark, its node, account and delivered list among n nodes that have written so much.
 pub record Told (n : ℕ) (written : List Record) (mark : ℕ) (x : Node) (account list : List Record) : Type 0 where
@@ -64,17 +64,17 @@ told_more n w r mark x l list later k = record { low = k.low; rises = k.rises; e
         let a = has-append s w (r ∷ []) in
         let b = has_one s r in
         let c = k.exact s in
-        by-test (sameRecord s r)
+        by_test (same_record s r)
         (λ e.
-        let f = same-eq s r e in
+        let f = same_eq s r e in
         let d : leb s.timestamp mark ≡ false = rw f (lt-leb r.timestamp mark later) in
-        by-test (has s w) (λ h. cc) (λ h. cc))
-        (λ e. by-test (has s w) (λ h. cc) (λ h. cc))
+        by_test (has s w) (λ h. cc) (λ h. cc))
+        (λ e. by_test (has s w) (λ h. cc) (λ h. cc))
 
 module _ (form : Form) (n : ℕ) (nodes : ℕ → Node) (x : Account) (k : Whole form n nodes x) where
   -- no mark is above a writer's own entry, so nothing written later falls at or below one
-  pub mark-behind : (p q mark : ℕ) → p < n → q < n → (l list : List Record) → Told n x.written mark (nodes q) l list → mark ≤ entry (nodes p).summary p
-  mark-behind p q mark h j l list t = omega (arith, t.low p h, (k.holds q j).kept.behind p h)
+  pub mark_behind : (p q mark : ℕ) → p < n → q < n → (l list : List Record) → Told n x.written mark (nodes q) l list → mark ≤ entry (nodes p).summary p
+  mark_behind p q mark h j l list t = omega (arith, t.low p h, (k.holds q j).kept.behind p h)
 
   -- Write: the writer itself
   pub told_wrote :
@@ -88,23 +88,23 @@ module _ (form : Form) (n : ℕ) (nodes : ℕ → Node) (x : Account) (k : Whole
       (λ r h later.
       let a = has-append r (x.of p) (new ∷ []) in
       let d = has-append r (nodes p).log (new ∷ []) in
-      by-test (has r (nodes p).log)
+      by_test (has r (nodes p).log)
       (λ e. cc)
-      (λ e. by-test (has r (x.of p)) (λ f. not-both (has r (nodes p).log) (t.above r f later) e) (λ f. cc)))
+      (λ e. by_test (has r (x.of p)) (λ f. not_both (has r (nodes p).log) (t.above r f later) e) (λ f. cc)))
       t
 
   -- Session: a record that the own account lacks is newer than the own starting summary
-  opened-misses : (p c : ℕ) → p < n → (r : Record) → has r x.written ≡ true → has r (x.of p) ≡ false → covers (opened p c (nodes p)).summary r ≡ false
+  opened_misses : (p c : ℕ) → p < n → (r : Record) → has r x.written ≡ true → has r (x.of p) ≡ false → covers (opened p c (nodes p)).summary r ≡ false
   unfolding opened
-  opened-misses p c h r w gone =
+  opened_misses p c h r w gone =
       let e = (k.holds p h).kept.exact r in
-      let lt = not-covers-lt (nodes p).summary r (cc) in
-      by-test (eqb r.origin p)
+      let lt = not_covers_lt (nodes p).summary r (cc) in
+      by_test (eqb r.origin p)
       (λ o.
       let q = eqb-true r.origin p o in
       let top = k.stamped.reached r w in
       absurd (let top' = rw q at top in let lt' = rw q at lt in omega arith))
-      (λ o. lt-covers _ r (omega (arith, get_or-set_other (nodes p).summary p r.origin c 0 (eqb-false r.origin p o))))
+      (λ o. lt_covers _ r (omega (arith, get_or-set_other (nodes p).summary p r.origin c 0 (eqb-false r.origin p o))))
 
   -- so what its account gains, its log gains
   pub told-ended :
@@ -119,23 +119,23 @@ module _ (form : Form) (n : ℕ) (nodes : ℕ → Node) (x : Account) (k : Whole
       told_same n x.written mark (nodes a) (finished a mine theirs) (x.of a) (x.of a ++ lacking (x.of a) (x.of b)) list up
       (λ r h later.
       let log = has-append r (nodes a).log (sent mine theirs) in
-      by-test (has r (x.of a))
+      by_test (has r (x.of a))
       (λ e. let f = t.above r e later in cc)
       (λ e.
       let all = has-append r (x.of a) (lacking (x.of a) (x.of b)) in
       let lacked = has-lacking r (x.of a) (x.of b) in
-      let theirs-has : has r (x.of b) ≡ true = by-test (has r (x.of b)) (λ y. y) (λ y. cc) in
+      let theirs_has : has r (x.of b) ≡ true = by_test (has r (x.of b)) (λ y. y) (λ y. cc) in
       let exact = (k.holds b hb).kept.exact r in
-      let w = and_left (has r x.written) (covers (nodes b).summary r) (sym exact ∙ theirs-has) in
-      by-test (has r (nodes b).log)
+      let w = and_left (has r x.written) (covers (nodes b).summary r) (sym exact ∙ theirs_has) in
+      by_test (has r (nodes b).log)
       (λ g.
       let new = has-newer r mine.summary (nodes b).log in
-      let misses = opened-misses a ca ha r w e in
-      by-test (has r (nodes a).log) (λ y. cc) (λ y. cc))
+      let misses = opened_misses a ca ha r w e in
+      by_test (has r (nodes a).log) (λ y. cc) (λ y. cc))
       (λ g.
-      let c = (k.holds b hb).kept.known r theirs-has g a ha in
+      let c = (k.holds b hb).kept.known r theirs_has g a ha in
       let own = (k.holds a ha).kept.exact r in
-      not-both (has r (x.of a)) (own ∙ and_both (has r x.written) (covers (nodes a).summary r) w c) e)))
+      not_both (has r (x.of a)) (own ∙ and_both (has r x.written) (covers (nodes a).summary r) w c) e)))
       t
   told-ended false a b ca cb mark ha hb list up t =
       told_same n x.written mark (nodes a) (opened a ca (nodes a)) (x.of a) (x.of a) list up t.above t
@@ -149,9 +149,9 @@ module _ (form : Form) (n : ℕ) (nodes : ℕ → Node) (x : Account) (k : Whole
   told-purged p leaves mark list low t =
       told_same n x.written mark (nodes p) (purged leaves (nodes p)) (x.of p) (x.of p) list (λ o. omega arith)
       (λ r h later.
-      by-test (has r (purged leaves (nodes p)).log)
+      by_test (has r (purged leaves (nodes p)).log)
       (λ e. e)
-      (λ e. absurd (omega (arith, later, low r (keep-gone leaves (nodes p).log r (t.above r h later) e)))))
+      (λ e. absurd (omega (arith, later, low r (keep_gone leaves (nodes p).log r (t.above r h later) e)))))
       t
 
   -- Deliver: what is given is what was written above the mark and not above the smallest entry
@@ -160,11 +160,11 @@ module _ (form : Form) (n : ℕ) (nodes : ℕ → Node) (x : Account) (k : Whole
         (r : Record) → has r (given mark (nodes p)) ≡ has r (nodes p).log && (ltb mark r.timestamp && leb r.timestamp (least (nodes p).summary))
     unfolding given waiting due
     has-given r =
-        has-inOrder r (waiting mark (nodes p)) ∙
+        has-in_order r (waiting mark (nodes p)) ∙
         has-keep (λ s. ltb mark s.timestamp && leb s.timestamp (least (nodes p).summary)) r (nodes p).log
 
-    given-log : (r : Record) → has r (given mark (nodes p)) ≡ true → has r (nodes p).log ≡ true
-    given-log r a = and_left (has r (nodes p).log) _ (sym (has-given r) ∙ a)
+    given_log : (r : Record) → has r (given mark (nodes p)) ≡ true → has r (nodes p).log ≡ true
+    given_log r a = and_left (has r (nodes p).log) _ (sym (has-given r) ∙ a)
 
     given_above : (r : Record) → has r (given mark (nodes p)) ≡ true → mark < r.timestamp
     given_above r a =
@@ -172,15 +172,15 @@ module _ (form : Form) (n : ℕ) (nodes : ℕ → Node) (x : Account) (k : Whole
         let c = leb r.timestamp (least (nodes p).summary) in
         ltb-true mark r.timestamp (and_left b c (and_right (has r (nodes p).log) (b && c) (sym (has-given r) ∙ a)))
 
-    given-rises : Rising (given mark (nodes p))
+    given_rises : Rising (given mark (nodes p))
     unfolding given waiting due
-    given-rises =
+    given_rises =
         let kept = (k.holds p h).kept in
         let once : Nodup (nodes p).log = Pairwise.sublistᴰ kept.less kept.once in
         let written : (r : Record) → has r (waiting mark (nodes p)) ≡ true → has r x.written ≡ true =
-        λ r a. log-written n _ (nodes p).summary (nodes p).log (x.of p) r kept (given-log r (has-inOrder r (waiting mark (nodes p)) ∙ a))
+        λ r a. log_written n _ (nodes p).summary (nodes p).log (x.of p) r kept (given_log r (has-in_order r (waiting mark (nodes p)) ∙ a))
         in
-        rising-inOrder (waiting mark (nodes p)) (once-keep _ (nodes p).log once) (λ r s a b. k.stamped.single r s (written r a) (written s b))
+        rising_in_order (waiting mark (nodes p)) (once_keep _ (nodes p).log once) (λ r s a b. k.stamped.single r s (written r a) (written s b))
 
     -- what is at most the smallest entry has arrived, and what is above the mark has not left
     arrived : (r : Record) → has r x.written ≡ true → mark < r.timestamp → r.timestamp ≤ least (nodes p).summary → has r (nodes p).log ≡ true
@@ -188,55 +188,55 @@ module _ (form : Form) (n : ℕ) (nodes : ℕ → Node) (x : Account) (k : Whole
         let kept = (k.holds p h).kept in
         let wide = kept.wide in
         let o = k.stamped.origin r w in
-        let c = le-covers (nodes p).summary r (omega (arith, low, least-le (nodes p).summary r.origin (omega arith))) in
+        let c = le_covers (nodes p).summary r (omega (arith, low, least_le (nodes p).summary r.origin (omega arith))) in
         t.above r (kept.exact r ∙ and_both (has r x.written) (covers (nodes p).summary r) w c) later
 
-    given-exact :
+    given_exact :
         (r : Record) → has r (list ++ given mark (nodes p)) ≡ has r x.written && leb r.timestamp (max mark (least (nodes p).summary))
-    given-exact r =
+    given_exact r =
         let high = least (nodes p).summary in
         let stamp = r.timestamp in
         let a = has-append r list (given mark (nodes p)) in
         let b = has-given r in
         let c = t.exact r in
-        by-test (leb stamp mark)
+        by_test (leb stamp mark)
         (λ e.
         let f = leb-true stamp mark e in
         let g = le-leb stamp (max mark high) (omega arith) in
         let i = le-ltb mark stamp f in
-        by-test (has r x.written) (λ w. cc) (λ w. by-test (has r (nodes p).log) (λ l. cc) (λ l. cc)))
+        by_test (has r x.written) (λ w. cc) (λ w. by_test (has r (nodes p).log) (λ l. cc) (λ l. cc)))
         (λ e.
         let f = leb-false stamp mark e in
         let i = lt-ltb mark stamp f in
-        by-test (leb stamp high)
+        by_test (leb stamp high)
         (λ j.
         let u = leb-true stamp high j in
         let g = le-leb stamp (max mark high) (omega arith) in
-        by-test (has r x.written)
+        by_test (has r x.written)
         (λ w. let l = arrived r w f u in cc)
         (λ w.
-        by-test (has r (nodes p).log)
-        (λ l. not-both (has r x.written) (log-written n _ (nodes p).summary (nodes p).log (x.of p) r (k.holds p h).kept l) w)
+        by_test (has r (nodes p).log)
+        (λ l. not_both (has r x.written) (log_written n _ (nodes p).summary (nodes p).log (x.of p) r (k.holds p h).kept l) w)
         (λ l. cc)))
         (λ j.
         let u = leb-false stamp high j in
         let g = lt-leb stamp (max mark high) (omega arith) in
-        by-test (has r x.written)
-        (λ w. by-test (has r (nodes p).log) (λ l. cc) (λ l. cc))
-        (λ w. by-test (has r (nodes p).log) (λ l. cc) (λ l. cc))))
+        by_test (has r x.written)
+        (λ w. by_test (has r (nodes p).log) (λ l. cc) (λ l. cc))
+        (λ w. by_test (has r (nodes p).log) (λ l. cc) (λ l. cc))))
 
-    pub told-delivered : Told n x.written (raised mark (nodes p)) (nodes p) (x.of p) (list ++ given mark (nodes p))
+    pub told_delivered : Told n x.written (raised mark (nodes p)) (nodes p) (x.of p) (list ++ given mark (nodes p))
     unfolding raised
-    told-delivered =
+    told_delivered =
         record {
           low = λ o j.
               let wide = (k.holds p h).kept.wide in
-              omega (arith, t.low o j, least-le (nodes p).summary o (omega arith));
+              omega (arith, t.low o j, least_le (nodes p).summary o (omega arith));
           rises =
-              rising-append list (given mark (nodes p)) t.rises given-rises
+              rising_append list (given mark (nodes p)) t.rises given_rises
               (λ r s a b.
               let c = leb-true r.timestamp mark (and_right (has r x.written) _ (sym (t.exact r) ∙ a)) in
-              before-time r s (omega (arith, given_above s b)));
-          exact = given-exact;
+              before_time r s (omega (arith, given_above s b)));
+          exact = given_exact;
           above = λ r a later. t.above r a (omega (arith, later));
         }

@@ -6,7 +6,7 @@ use Prim.Native.Nat.{ℕ, ◌+◌, ◌≤◌, ◌<◌}
 use native.Mathlib.Omega.{arith}
 use lib.ListN.{length, get_or}
 use Rattle.meaning.specs.Table.{part, place, Piece, lay}
-use Rattle.meaning.proofs.PlaceLaws.{length-place, getD-away, part_same, part-away}
+use Rattle.meaning.proofs.PlaceLaws.{length-place, get_or_away, part_same, part_away}
 
 pub record Region : Type 0 where
   pub at : ℕ
@@ -43,43 +43,43 @@ pub data Between (lo hi : ℕ) : List Region → Type 0 where
   Between·cons : {r : Region} {rs : List Region} → lo ≤ r.at → r.at + r.most ≤ hi → Between lo hi rs → Between lo hi (r ∷ rs)
 
 -- so that what lies outside lies apart from every region, they lie within as many words, and regions after them meet none of them
-pub apart-between : (lo hi a k : ℕ) (rs : List Region) → Between lo hi rs → (a < hi → lo < a + k → ⊥) → Apart a k rs
-apart-between lo hi a k [] Between·nil out = Apart·nil
-apart-between lo hi a k (r ∷ rs) (Between·cons l h b) out =
-    Apart·cons {r = r} (λ u v. out (omega (arith, h, u)) (omega (arith, l, v))) (apart-between lo hi a k rs b out)
+pub apart_between : (lo hi a k : ℕ) (rs : List Region) → Between lo hi rs → (a < hi → lo < a + k → ⊥) → Apart a k rs
+apart_between lo hi a k [] Between·nil out = Apart·nil
+apart_between lo hi a k (r ∷ rs) (Between·cons l h b) out =
+    Apart·cons {r = r} (λ u v. out (omega (arith, h, u)) (omega (arith, l, v))) (apart_between lo hi a k rs b out)
 
-pub inside-between : (lo hi m : ℕ) (rs : List Region) → Between lo hi rs → hi ≤ m → Inside m rs
-inside-between lo hi m [] Between·nil e = Inside·nil
-inside-between lo hi m (r ∷ rs) (Between·cons l h b) e = Inside·cons {r = r} (omega (arith, h, e)) (inside-between lo hi m rs b e)
+pub inside_between : (lo hi m : ℕ) (rs : List Region) → Between lo hi rs → hi ≤ m → Inside m rs
+inside_between lo hi m [] Between·nil e = Inside·nil
+inside_between lo hi m (r ∷ rs) (Between·cons l h b) e = Inside·cons {r = r} (omega (arith, h, e)) (inside_between lo hi m rs b e)
 
-pub apart-append : (a k : ℕ) (rs ss : List Region) → Apart a k rs → Apart a k ss → Apart a k (rs ++ ss)
-apart-append a k [] ss Apart·nil o = o
-apart-append a k (r ∷ rs) ss (Apart·cons g o) o' = Apart·cons g (apart-append a k rs ss o o')
+pub apart_append : (a k : ℕ) (rs ss : List Region) → Apart a k rs → Apart a k ss → Apart a k (rs ++ ss)
+apart_append a k [] ss Apart·nil o = o
+apart_append a k (r ∷ rs) ss (Apart·cons g o) o' = Apart·cons g (apart_append a k rs ss o o')
 
-pub inside-append : (m : ℕ) (rs ss : List Region) → Inside m rs → Inside m ss → Inside m (rs ++ ss)
-inside-append m [] ss Inside·nil i = i
-inside-append m (r ∷ rs) ss (Inside·cons h i) i' = Inside·cons h (inside-append m rs ss i i')
+pub inside_append : (m : ℕ) (rs ss : List Region) → Inside m rs → Inside m ss → Inside m (rs ++ ss)
+inside_append m [] ss Inside·nil i = i
+inside_append m (r ∷ rs) ss (Inside·cons h i) i' = Inside·cons h (inside_append m rs ss i i')
 
-pub disjoint-append :
+pub disjoint_append :
     (lo mid hi : ℕ) (rs ss : List Region) → Between lo mid rs → Disjoint rs → Between mid hi ss → Disjoint ss → Disjoint (rs ++ ss)
-disjoint-append lo mid hi [] ss Between·nil Disjoint·nil c d = d
-disjoint-append lo mid hi (r ∷ rs) ss (Between·cons l h b) (Disjoint·cons g o) c d =
+disjoint_append lo mid hi [] ss Between·nil Disjoint·nil c d = d
+disjoint_append lo mid hi (r ∷ rs) ss (Between·cons l h b) (Disjoint·cons g o) c d =
     Disjoint·cons
-    (apart-append r.at r.most rs ss g (apart-between mid hi r.at r.most ss c (λ u v. omega (arith, h, v))))
-    (disjoint-append lo mid hi rs ss b o c d)
+    (apart_append r.at r.most rs ss g (apart_between mid hi r.at r.most ss c (λ u v. omega (arith, h, v))))
+    (disjoint_append lo mid hi rs ss b o c d)
 
-pub fills-append : (xs ys : List Piece) (rs ss : List Region) → Fills xs rs → Fills ys ss → Fills (xs ++ ys) (rs ++ ss)
-fills-append [] ys [] ss Fills·nil g = g
-fills-append (x ∷ xs) ys (r ∷ rs) ss (Fills·cons e l f) g = Fills·cons e l (fills-append xs ys rs ss f g)
+pub fills_append : (xs ys : List Piece) (rs ss : List Region) → Fills xs rs → Fills ys ss → Fills (xs ++ ys) (rs ++ ss)
+fills_append [] ys [] ss Fills·nil g = g
+fills_append (x ∷ xs) ys (r ∷ rs) ss (Fills·cons e l f) g = Fills·cons e l (fills_append xs ys rs ss f g)
 
 -- a piece of a list, with others before or after it
-pub among-left : (x : Piece) (xs ys : List Piece) → Memᴰ x xs → Memᴰ x (xs ++ ys)
-among-left x (y ∷ xs) ys (Memᴰ.head q) = Memᴰ.head q
-among-left x (y ∷ xs) ys (Memᴰ.tail m) = Memᴰ.tail (among-left x xs ys m)
+pub among_left : (x : Piece) (xs ys : List Piece) → Memᴰ x xs → Memᴰ x (xs ++ ys)
+among_left x (y ∷ xs) ys (Memᴰ.head q) = Memᴰ.head q
+among_left x (y ∷ xs) ys (Memᴰ.tail m) = Memᴰ.tail (among_left x xs ys m)
 
-pub among-right : (x : Piece) (xs ys : List Piece) → Memᴰ x ys → Memᴰ x (xs ++ ys)
-among-right x [] ys m = m
-among-right x (y ∷ xs) ys m = Memᴰ.tail (among-right x xs ys m)
+pub among_right : (x : Piece) (xs ys : List Piece) → Memᴰ x ys → Memᴰ x (xs ++ ys)
+among_right x [] ys m = m
+among_right x (y ∷ xs) ys m = Memᴰ.tail (among_right x xs ys m)
 
 -- pieces laid over others
 pub lay-append : (xs ys : List Piece) (t : List ℕ) → lay (xs ++ ys) t ≡ lay xs (lay ys t)
@@ -88,14 +88,14 @@ lay-append [] ys t = refl
 lay-append (x ∷ xs) ys t = ap (place x.at x.new) (lay-append xs ys t)
 
 -- what lies apart from the regions lies apart from each piece, and the pieces lie where the regions do
-apart-at :
+apart_at :
     (a k : ℕ) (x : Piece) (xs : List Piece) (rs : List Region) → Fills xs rs → Apart a k rs → Memᴰ x xs → a < x.at + length x.new → x.at < a + k → ⊥
-apart-at a k x (y ∷ xs) (r ∷ rs) (Fills·cons e l f) (Apart·cons g o) (Memᴰ.head q) = rw q (λ u v. g (omega (arith, e, l, u)) (omega (arith, e, v)))
-apart-at a k x (y ∷ xs) (r ∷ rs) (Fills·cons e l f) (Apart·cons g o) (Memᴰ.tail m) = apart-at a k x xs rs f o m
+apart_at a k x (y ∷ xs) (r ∷ rs) (Fills·cons e l f) (Apart·cons g o) (Memᴰ.head q) = rw q (λ u v. g (omega (arith, e, l, u)) (omega (arith, e, v)))
+apart_at a k x (y ∷ xs) (r ∷ rs) (Fills·cons e l f) (Apart·cons g o) (Memᴰ.tail m) = apart_at a k x xs rs f o m
 
-inside-at : (n : ℕ) (x : Piece) (xs : List Piece) (rs : List Region) → Fills xs rs → Inside n rs → Memᴰ x xs → x.at + length x.new ≤ n
-inside-at n x (y ∷ xs) (r ∷ rs) (Fills·cons e l f) (Inside·cons i j) (Memᴰ.head q) = rw q (omega (arith, e, l, i))
-inside-at n x (y ∷ xs) (r ∷ rs) (Fills·cons e l f) (Inside·cons i j) (Memᴰ.tail m) = inside-at n x xs rs f j m
+inside_at : (n : ℕ) (x : Piece) (xs : List Piece) (rs : List Region) → Fills xs rs → Inside n rs → Memᴰ x xs → x.at + length x.new ≤ n
+inside_at n x (y ∷ xs) (r ∷ rs) (Fills·cons e l f) (Inside·cons i j) (Memᴰ.head q) = rw q (omega (arith, e, l, i))
+inside_at n x (y ∷ xs) (r ∷ rs) (Fills·cons e l f) (Inside·cons i j) (Memᴰ.tail m) = inside_at n x xs rs f j m
 
 pub length-lay : (xs : List Piece) (rs : List Region) (t : List ℕ) → Fills xs rs → Inside (length t) rs → length (lay xs t) ≡ length t
 unfolding lay
@@ -105,37 +105,37 @@ length-lay (x ∷ xs) (r ∷ rs) t (Fills·cons e l f) (Inside·cons i j) =
     length-place x.at x.new (lay xs t) (omega (arith, e, l, i, h)) ∙ h
 
 -- A part that lies apart from every region is as it was
-pub lay-away :
+pub lay_away :
     (xs : List Piece) (rs : List Region) (t : List ℕ) → Fills xs rs → Inside (length t) rs → (a k : ℕ) → a + k ≤ length t → Apart a k rs →
     part a k (lay xs t) ≡ part a k t
 unfolding lay
-lay-away [] [] t Fills·nil i a k w o = refl
-lay-away (x ∷ xs) (r ∷ rs) t (Fills·cons e l f) (Inside·cons i j) a k w (Apart·cons g o) =
+lay_away [] [] t Fills·nil i a k w o = refl
+lay_away (x ∷ xs) (r ∷ rs) t (Fills·cons e l f) (Inside·cons i j) a k w (Apart·cons g o) =
     let h = length-lay xs rs t f j in
-    part-away a k x.at x.new (lay xs t) (omega (arith, e, l, i, h)) (omega (arith, h)) (λ u v. g (omega (arith, e, l, u)) (omega (arith, e, v))) ∙
-    lay-away xs rs t f j a k w o
+    part_away a k x.at x.new (lay xs t) (omega (arith, e, l, i, h)) (omega (arith, h)) (λ u v. g (omega (arith, e, l, u)) (omega (arith, e, v))) ∙
+    lay_away xs rs t f j a k w o
 
 -- and so is a word
-pub lay-word :
+pub lay_word :
     (xs : List Piece) (rs : List Region) (t : List ℕ) → Fills xs rs → Inside (length t) rs → (i : ℕ) → Apart i 1 rs → get_or (lay xs t) i 0 ≡ get_or t i 0
 unfolding lay
-lay-word [] [] t Fills·nil j i o = refl
-lay-word (x ∷ xs) (r ∷ rs) t (Fills·cons e l f) (Inside·cons c j) i (Apart·cons g o) =
+lay_word [] [] t Fills·nil j i o = refl
+lay_word (x ∷ xs) (r ∷ rs) t (Fills·cons e l f) (Inside·cons c j) i (Apart·cons g o) =
     let h = length-lay xs rs t f j in
-    getD-away i x.at x.new (lay xs t) (omega (arith, e, l, c, h)) (λ u v. g (omega (arith, e, l, u)) (omega (arith, e, v))) ∙
-    lay-word xs rs t f j i o
+    get_or_away i x.at x.new (lay xs t) (omega (arith, e, l, c, h)) (λ u v. g (omega (arith, e, l, u)) (omega (arith, e, v))) ∙
+    lay_word xs rs t f j i o
 
 -- A piece is read again
-pub lay-back :
+pub lay_back :
     (xs : List Piece) (rs : List Region) (t : List ℕ) → Fills xs rs → Inside (length t) rs → Disjoint rs → (x : Piece) → Memᴰ x xs →
     part x.at (length x.new) (lay xs t) ≡ x.new
 unfolding lay
-lay-back (y ∷ xs) (r ∷ rs) t (Fills·cons e l f) (Inside·cons i j) (Disjoint·cons g o) x (Memᴰ.head q) =
+lay_back (y ∷ xs) (r ∷ rs) t (Fills·cons e l f) (Inside·cons i j) (Disjoint·cons g o) x (Memᴰ.head q) =
     let h = length-lay xs rs t f j in
     rw q (part_same y.at y.new (lay xs t) (length y.new) refl (omega (arith, e, l, i, h)))
-lay-back (y ∷ xs) (r ∷ rs) t (Fills·cons e l f) (Inside·cons i j) (Disjoint·cons g o) x (Memᴰ.tail m) =
+lay_back (y ∷ xs) (r ∷ rs) t (Fills·cons e l f) (Inside·cons i j) (Disjoint·cons g o) x (Memᴰ.tail m) =
     let h = length-lay xs rs t f j in
-    let w = inside-at (length t) x xs rs f j m in
-    part-away x.at (length x.new) y.at y.new (lay xs t) (omega (arith, e, l, i, h)) (omega (arith, h, w))
-    (λ u v. apart-at r.at r.most x xs rs f g m (omega (arith, e, v)) (omega (arith, e, l, u))) ∙
-    lay-back xs rs t f j o x m
+    let w = inside_at (length t) x xs rs f j m in
+    part_away x.at (length x.new) y.at y.new (lay xs t) (omega (arith, e, l, i, h)) (omega (arith, h, w))
+    (λ u v. apart_at r.at r.most x xs rs f g m (omega (arith, e, v)) (omega (arith, e, l, u))) ∙
+    lay_back xs rs t f j o x m

@@ -13,7 +13,7 @@ use Rattle.meaning.specs.Rows.{all, lower, lowest, covers, newer, above}
 use Rattle.meaning.specs.Table.{Form, Vectors, Columns, form_of, count, mark, node, Sound, Shaped}
 use Rattle.meaning.specs.Node.{purged, leaves}
 use Rattle.meaning.specs.Steps.{limit, leaving}
-use Rattle.meaning.proofs.TableLaws.{node-shaped}
+use Rattle.meaning.proofs.TableLaws.{node_shaped}
 use Rattle.meaning.proofs.AccountLaws.{keep_same, entry}
 
 -- the smaller of two rows
@@ -24,13 +24,13 @@ length-lower (x ∷ xs) [] n p q = absurd (omega arith)
 length-lower (x ∷ xs) (y ∷ ys) zero p q = absurd (omega arith)
 length-lower (x ∷ xs) (y ∷ ys) (suc n) p q = ap suc (length-lower xs ys n (omega arith) (omega arith))
 
-lower-entry : (xs ys : List ℕ) (i : ℕ) → length xs ≡ length ys → entry (lower xs ys) i ≡ min (entry xs i) (entry ys i)
+lower_entry : (xs ys : List ℕ) (i : ℕ) → length xs ≡ length ys → entry (lower xs ys) i ≡ min (entry xs i) (entry ys i)
 unfolding lower
-lower-entry [] [] i h = omega arith
-lower-entry [] (y ∷ ys) i h = absurd (omega arith)
-lower-entry (x ∷ xs) [] i h = absurd (omega arith)
-lower-entry (x ∷ xs) (y ∷ ys) zero h = refl
-lower-entry (x ∷ xs) (y ∷ ys) (suc i) h = lower-entry xs ys i (omega arith)
+lower_entry [] [] i h = omega arith
+lower_entry [] (y ∷ ys) i h = absurd (omega arith)
+lower_entry (x ∷ xs) [] i h = absurd (omega arith)
+lower_entry (x ∷ xs) (y ∷ ys) zero h = refl
+lower_entry (x ∷ xs) (y ∷ ys) (suc i) h = lower_entry xs ys i (omega arith)
 
 leb-min : (t a b : ℕ) → leb t (min a b) ≡ (leb t a && leb t b)
 leb-min t a b = go (dec_le t a) (dec_le t b)
@@ -44,7 +44,7 @@ leb-min t a b = go (dec_le t a) (dec_le t b)
 covers-lower : (xs ys : List ℕ) (r : Record) → length xs ≡ length ys → covers (lower xs ys) r ≡ (covers xs r && covers ys r)
 unfolding covers
 covers-lower xs ys r h =
-    ap (leb r.timestamp) (lower-entry xs ys r.origin h) ∙ leb-min r.timestamp (entry xs r.origin) (entry ys r.origin)
+    ap (leb r.timestamp) (lower_entry xs ys r.origin h) ∙ leb-min r.timestamp (entry xs r.origin) (entry ys r.origin)
 
 -- the smallest of all columns has n entries too, and covers what every column covers
 module _ (n : ℕ) where
@@ -68,22 +68,22 @@ module _ (n : ℕ) where
       sym (covers-lower c (lowest (d ∷ ds)) r (long 0 (omega arith) ∙ sym (length-lowest (d ∷ ds) (omega arith) rest)))
 
 -- What is left of a log: on vectors what is above the limit
-pub purged-vectors : (t : List ℕ) (p : ℕ) → form_of t ≡ Vectors → (purged (leaving t p) (node t p)).log ≡ above (limit t p) (node t p).log
+pub purged_vectors : (t : List ℕ) (p : ℕ) → form_of t ≡ Vectors → (purged (leaving t p) (node t p)).log ≡ above (limit t p) (node t p).log
 unfolding purged above leaving leaves limit
-purged-vectors t p form =
+purged_vectors t p form =
     keep_same (λ r. not (leaves (form_of t) (mark t p) (node t p) r)) (λ r. not (leb r.timestamp (limit t p))) (node t p).log
     (λ r h. ap (λ (f : Form). not (leaves f (mark t p) (node t p) r)) form)
 
 -- and on columns what the smallest of all columns does not cover
-pub purged-columns :
+pub purged_columns :
     (t : List ℕ) → Sound t → (p : ℕ) → p < count t → form_of t ≡ Columns →
     (purged (leaving t p) (node t p)).log ≡ newer (lowest (node t p).columns) (node t p).log
 unfolding purged newer leaving leaves
-purged-columns t s p h form =
+purged_columns t s p h form =
     let x = node t p in
-    let fits : Shaped Columns (count t) p x = rw form at (node-shaped t s p h) in
-    let wide = fits.columnsLong in
+    let fits : Shaped Columns (count t) p x = rw form at (node_shaped t s p h) in
+    let wide = fits.columns_long in
     keep_same (λ r. not (leaves (form_of t) (mark t p) x r)) (λ r. not (covers (lowest x.columns) r)) x.log
     (λ r g.
     ap (λ (f : Form). not (leaves f (mark t p) x r)) form ∙
-    ap not (covers-lowest (count t) x.columns r (omega arith) fits.columnLong))
+    ap not (covers-lowest (count t) x.columns r (omega arith) fits.column_long))

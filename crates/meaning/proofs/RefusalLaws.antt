@@ -8,7 +8,7 @@ use native.Mathlib.Omega.{arith}
 use borrow.Author.Tests.{eq-eqb, ltb-true, not-true}
 use lib.Dec.{ltb, eqb}
 use Rattle.meaning.specs.Rows.{unless}
-use Rattle.meaning.specs.Refusals.{Test, test, testAt, first, firstPlace}
+use Rattle.meaning.specs.Refusals.{Test, test, test_at, first, first_place}
 use Rattle.meaning.proofs.RowLaws.{and_left, and_right}
 
 -- no test applies; each number is above 0, so that 0 is no test's; a number is a test's, or 0
@@ -31,51 +31,51 @@ test_of k (x ∷ xs) = cond (eqb x.number k) x.applies (test_of k xs)
 
 -- the number and the place that a list gives
 abbrev pub Gives : List Test → ℕ → ℕ → Type 0
-Gives xs k p = (first xs ≡ k) × (firstPlace xs ≡ p)
+Gives xs k p = (first xs ≡ k) × (first_place xs ≡ p)
 
 -- a row at the head: given, or passed over
-pub given-at : (k p : ℕ) (b : Bool) (xs : List Test) → b ≡ true → Gives (testAt k p b ∷ xs) k p
-unfolding first firstPlace
-given-at k p b xs h = (rw h, rw h)
+pub given_at : (k p : ℕ) (b : Bool) (xs : List Test) → b ≡ true → Gives (test_at k p b ∷ xs) k p
+unfolding first first_place
+given_at k p b xs h = (rw h, rw h)
 
-pub passed-at : (k p : ℕ) (b : Bool) (xs : List Test) → b ≡ false → Gives (testAt k p b ∷ xs) (first xs) (firstPlace xs)
-unfolding first firstPlace
-passed-at k p b xs h = (rw h, rw h)
+pub passed_at : (k p : ℕ) (b : Bool) (xs : List Test) → b ≡ false → Gives (test_at k p b ∷ xs) (first xs) (first_place xs)
+unfolding first first_place
+passed_at k p b xs h = (rw h, rw h)
 
 pub first-given : (k : ℕ) (b : Bool) (xs : List Test) → b ≡ true → first (test k b ∷ xs) ≡ k
-first-given k b xs h = (given-at k 0 b xs h).0
+first-given k b xs h = (given_at k 0 b xs h).0
 
-pub first-passed : (k : ℕ) (b : Bool) (xs : List Test) → b ≡ false → first (test k b ∷ xs) ≡ first xs
-first-passed k b xs h = (passed-at k 0 b xs h).0
+pub first_passed : (k : ℕ) (b : Bool) (xs : List Test) → b ≡ false → first (test k b ∷ xs) ≡ first xs
+first_passed k b xs h = (passed_at k 0 b xs h).0
 
 -- The first that applies: a test that applies with none before it gives its number
-pub first-is : (xs : List Test) (x : Test) (ys : List Test) → none xs ≡ true → x.applies ≡ true → first (xs ++ (x ∷ ys)) ≡ x.number
+pub first_is : (xs : List Test) (x : Test) (ys : List Test) → none xs ≡ true → x.applies ≡ true → first (xs ++ (x ∷ ys)) ≡ x.number
 unfolding first none
-first-is [] x ys n h = rw h
-first-is (y ∷ xs) x ys n h =
-    rw (not-true y.applies (and_left (not y.applies) (none xs) n)) (first-is xs x ys (and_right (not y.applies) (none xs) n) h)
+first_is [] x ys n h = rw h
+first_is (y ∷ xs) x ys n h =
+    rw (not-true y.applies (and_left (not y.applies) (none xs) n)) (first_is xs x ys (and_right (not y.applies) (none xs) n) h)
 
 -- and its place
-pub place_is : (xs : List Test) (x : Test) (ys : List Test) → none xs ≡ true → x.applies ≡ true → firstPlace (xs ++ (x ∷ ys)) ≡ x.place
-unfolding firstPlace none
+pub place_is : (xs : List Test) (x : Test) (ys : List Test) → none xs ≡ true → x.applies ≡ true → first_place (xs ++ (x ∷ ys)) ≡ x.place
+unfolding first_place none
 place_is [] x ys n h = rw h
 place_is (y ∷ xs) x ys n h =
     rw (not-true y.applies (and_left (not y.applies) (none xs) n)) (place_is xs x ys (and_right (not y.applies) (none xs) n) h)
 
 -- Tests after others: they are not asked where one before them applies, and alone where none does
-pub given-before : (xs ys : List Test) → none xs ≡ false → Gives (xs ++ ys) (first xs) (firstPlace xs)
-unfolding first firstPlace none
-given-before [] ys h = absurd (true≢false h)
-given-before (x ∷ xs) ys h = go x.applies (given-before xs ys) h
+pub given_before : (xs ys : List Test) → none xs ≡ false → Gives (xs ++ ys) (first xs) (first_place xs)
+unfolding first first_place none
+given_before [] ys h = absurd (true≢false h)
+given_before (x ∷ xs) ys h = go x.applies (given_before xs ys) h
   where
-    go : (b : Bool) → (none xs ≡ false → Gives (xs ++ ys) (first xs) (firstPlace xs)) → not b && none xs ≡ false
+    go : (b : Bool) → (none xs ≡ false → Gives (xs ++ ys) (first xs) (first_place xs)) → not b && none xs ≡ false
         → (cond b x.number (first (xs ++ ys)) ≡ cond b x.number (first xs))
-        × (cond b x.place (firstPlace (xs ++ ys)) ≡ cond b x.place (firstPlace xs))
+        × (cond b x.place (first_place (xs ++ ys)) ≡ cond b x.place (first_place xs))
     go true ih e = (refl, refl)
     go false ih e = ih e
 
-pub given-after : (xs ys : List Test) → none xs ≡ true → Gives (xs ++ ys) (first ys) (firstPlace ys)
-unfolding first firstPlace none
+pub given-after : (xs ys : List Test) → none xs ≡ true → Gives (xs ++ ys) (first ys) (first_place ys)
+unfolding first first_place none
 given-after [] ys n = (refl, refl)
 given-after (x ∷ xs) ys n =
     let here = not-true x.applies (and_left (not x.applies) (none xs) n) in
@@ -89,8 +89,8 @@ first-none [] n = refl
 first-none (x ∷ xs) n =
     rw (not-true x.applies (and_left (not x.applies) (none xs) n)) (first-none xs (and_right (not x.applies) (none xs) n))
 
-pub place_none : (xs : List Test) → none xs ≡ true → firstPlace xs ≡ 0
-unfolding firstPlace none
+pub place_none : (xs : List Test) → none xs ≡ true → first_place xs ≡ 0
+unfolding first_place none
 place_none [] n = refl
 place_none (x ∷ xs) n =
     rw (not-true x.applies (and_left (not x.applies) (none xs) n)) (place_none xs (and_right (not x.applies) (none xs) n))
@@ -105,24 +105,24 @@ none_first (x ∷ xs) k h = go x.applies (none_first xs (and_right (ltb 0 x.numb
     go false ih e = ih e
 
 -- so each test fails, found by its number
-pub none-at : (k : ℕ) (xs : List Test) → none xs ≡ true → test_of k xs ≡ false
+pub none_at : (k : ℕ) (xs : List Test) → none xs ≡ true → test_of k xs ≡ false
 unfolding none test_of
-none-at k [] n = refl
-none-at k (x ∷ xs) n =
-    go (eqb x.number k) (not-true x.applies (and_left (not x.applies) (none xs) n)) (none-at k xs (and_right (not x.applies) (none xs) n))
+none_at k [] n = refl
+none_at k (x ∷ xs) n =
+    go (eqb x.number k) (not-true x.applies (and_left (not x.applies) (none xs) n)) (none_at k xs (and_right (not x.applies) (none xs) n))
   where
     go : (b : Bool) → x.applies ≡ false → test_of k xs ≡ false → cond b x.applies (test_of k xs) ≡ false
     go true f g = f
     go false f g = g
 
-pub first-at : (k : ℕ) (xs : List Test) → numbered xs ≡ true → first xs ≡ 0 → test_of k xs ≡ false
-first-at k xs n h = none-at k xs (none_first xs n h)
+pub first_at : (k : ℕ) (xs : List Test) → numbered xs ≡ true → first xs ≡ 0 → test_of k xs ≡ false
+first_at k xs n h = none_at k xs (none_first xs n h)
 
 -- The number given is one of the list, or 0
-pub first-listed : (xs : List Test) → listed (first xs) xs ≡ true
+pub first_listed : (xs : List Test) → listed (first xs) xs ≡ true
 unfolding first listed
-first-listed [] = refl
-first-listed (x ∷ xs) = go x.applies (first-listed xs)
+first_listed [] = refl
+first_listed (x ∷ xs) = go x.applies (first_listed xs)
   where
     go : (b : Bool) → listed (first xs) xs ≡ true → (eqb (cond b x.number (first xs)) x.number || listed (cond b x.number (first xs)) xs) ≡ true
     go true ih = ap (λ (c : Bool). c || listed x.number xs) (eq-eqb x.number x.number refl)
@@ -130,12 +130,12 @@ first-listed (x ∷ xs) = go x.applies (first-listed xs)
 
 -- A refusal changes nothing, and without one what is new is there
 module _ {A : Type 0} (xs : List Test) (new old : A) where
-  pub refused-same : numbered xs ≡ true → none xs ≡ false → unless (first xs) new old ≡ old
-  refused-same n h = go (first xs) refl
+  pub refused_same : numbered xs ≡ true → none xs ≡ false → unless (first xs) new old ≡ old
+  refused_same n h = go (first xs) refl
     where
       go : (k : ℕ) → first xs ≡ k → unless k new old ≡ old
       go zero e = let p = none_first xs n e in let f : true ≡ false = cc in absurd (true≢false f)
       go (suc k) e = refl
 
-  pub accepted-new : none xs ≡ true → unless (first xs) new old ≡ new
-  accepted-new h = rw (first-none xs h)
+  pub accepted_new : none xs ≡ true → unless (first xs) new old ≡ new
+  accepted_new h = rw (first-none xs h)

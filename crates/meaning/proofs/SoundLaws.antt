@@ -11,10 +11,10 @@ use lib.ListN.{length, get_or, take, drop}
 use lib.Seq.{get_or-take}
 use lib.Bits.{bit_or}
 use lib.Dec.{leb, ltb, eqb}
-use Rattle.meaning.specs.Rows.{every, recordAt}
+use Rattle.meaning.specs.Rows.{every, record_at}
 use Rattle.meaning.proofs.BitLaws.{or_byte}
-use Rattle.meaning.proofs.RowLaws.{every-at, recordAt-agree}
-use Rattle.meaning.specs.Table.{formWords, form_of, nodesMost, logMost, log_at, part, count, held, recordSound, logSound, sound}
+use Rattle.meaning.proofs.RowLaws.{every_at, record_at_agree}
+use Rattle.meaning.specs.Table.{form_words, form_of, nodes_most, log_most, log_at, part, count, held, record_sound, log_sound, sound}
 
 -- no number, and one number more
 pub every-none : (f : ℕ → Bool) → every 0 f ≡ true
@@ -25,24 +25,24 @@ pub every_more : (n : ℕ) (f : ℕ → Bool) → every (n + 1) f ≡ (every n f
 unfolding every
 every_more n f = rw (add-one)
 
-pub every-last : (n : ℕ) (f : ℕ → Bool) → every n f ≡ true → f n ≡ true → every (n + 1) f ≡ true
-every-last n f before last = rw (every_more, before) last
+pub every_last : (n : ℕ) (f : ℕ → Bool) → every n f ≡ true → f n ≡ true → every (n + 1) f ≡ true
+every_last n f before last = rw (every_more, before) last
 
-pub every-whole : (n p : ℕ) (f : ℕ → Bool) → p ≤ n → n ≤ p → every p f ≡ true → true ≡ every n f
-every-whole n p f below above all = let same : p ≡ n = omega arith in rw (← same) (sym all)
+pub every_whole : (n p : ℕ) (f : ℕ → Bool) → p ≤ n → n ≤ p → every p f ≡ true → true ≡ every n f
+every_whole n p f below above all = let same : p ≡ n = omega arith in rw (← same) (sym all)
 
 -- tests that agree below n
-pub every-same : (n : ℕ) (f g : ℕ → Bool) → ((i : ℕ) → i < n → f i ≡ g i) → every n f ≡ every n g
+pub every_same : (n : ℕ) (f g : ℕ → Bool) → ((i : ℕ) → i < n → f i ≡ g i) → every n f ≡ every n g
 unfolding every
-every-same zero f g same = refl
-every-same (suc n) f g same = cc (every-same n f g (λ i h. same i (omega arith)), same n (omega arith))
+every_same zero f g same = refl
+every_same (suc n) f g same = cc (every_same n f g (λ i h. same i (omega arith)), same n (omega arith))
 
 -- a test that fails at one number fails
-pub every-not : (n : ℕ) (f : ℕ → Bool) (i : ℕ) → i < n → f i ≡ false → every n f ≡ false
-every-not n f i h e = go (every n f) refl
+pub every_not : (n : ℕ) (f : ℕ → Bool) (i : ℕ) → i < n → f i ≡ false → every n f ≡ false
+every_not n f i h e = go (every n f) refl
   where
     go : (b : Bool) → every n f ≡ b → every n f ≡ false
-    go true t = let at = every-at n f t i h in cc
+    go true t = let at = every_at n f t i h in cc
     go false t = t
 
 -- a count with a test's failure added is 0 if it was and the test passes
@@ -62,61 +62,61 @@ crossed false b c d = refl
 
 -- The scan of a log of words w, where m of the k records passed have an origin that is not below n, and v is their verdicts' bits together.
 module _ (w : List ℕ) (n : ℕ) where
-  pub scan-starts : (eqb 0 0 && leb 0 255) ≡ every 0 (λ i. recordSound n (recordAt w i))
+  pub scan_starts : (eqb 0 0 && leb 0 255) ≡ every 0 (λ i. record_sound n (record_at w i))
   unfolding every
-  scan-starts = refl
+  scan_starts = refl
 
-  pub scan-more : (k m v d : ℕ)
+  pub scan_more : (k m v d : ℕ)
       → d ≡ cond (ltb (get_or w (4 * k) 0) n) 0 1
-      → (eqb m 0 && leb v 255) ≡ every k (λ i. recordSound n (recordAt w i))
-      → (eqb (m + d) 0 && leb (bit_or v (get_or w (4 * k + 3) 0)) 255) ≡ every (k + 1) (λ i. recordSound n (recordAt w i))
-  unfolding recordSound recordAt
-  scan-more k m v d ed before =
+      → (eqb m 0 && leb v 255) ≡ every k (λ i. record_sound n (record_at w i))
+      → (eqb (m + d) 0 && leb (bit_or v (get_or w (4 * k + 3) 0)) 255) ≡ every (k + 1) (λ i. record_sound n (record_at w i))
+  unfolding record_sound record_at
+  scan_more k m v d ed before =
       rw (ed, every_more, none_more, or_byte, ← before)
       (crossed (eqb m 0) (ltb (get_or w (4 * k) 0) n) (leb v 255) (leb (get_or w (4 * k + 3) 0) 255))
 
   -- the answer after the last record, b what the origins' test says
-  pub scan-ends : (b : Bool) (k held m v : ℕ) → k ≤ held → held ≤ k → eqb m 0 ≡ b
-      → (eqb m 0 && leb v 255) ≡ every k (λ i. recordSound n (recordAt w i))
-      → (b && leb v 255) ≡ every held (λ i. recordSound n (recordAt w i))
-  scan-ends b k held m v below above t before = let all : k ≡ held = omega arith in rw (← t, ← all) before
+  pub scan_ends : (b : Bool) (k held m v : ℕ) → k ≤ held → held ≤ k → eqb m 0 ≡ b
+      → (eqb m 0 && leb v 255) ≡ every k (λ i. record_sound n (record_at w i))
+      → (b && leb v 255) ≡ every held (λ i. record_sound n (record_at w i))
+  scan_ends b k held m v below above t before = let all : k ≡ held = omega arith in rw (← t, ← all) before
 
 -- A record of a log's held part is that of the whole log.
-pub recordAt-held : (t : List ℕ) (at k m i : ℕ) → i < k → 4 * k ≤ m → recordAt (take (4 * k) (drop at t)) i ≡ recordAt (part at m t) i
+pub record_at-held : (t : List ℕ) (at k m i : ℕ) → i < k → 4 * k ≤ m → record_at (take (4 * k) (drop at t)) i ≡ record_at (part at m t) i
 unfolding part
-recordAt-held t at k m i h room =
-    recordAt-agree (take (4 * k) (drop at t)) (take m (drop at t)) i i
+record_at-held t at k m i h room =
+    record_at_agree (take (4 * k) (drop at t)) (take m (drop at t)) i i
     (λ j b. get_or-take (4 * k) (drop at t) (4 * i + j) 0 (omega arith) ∙ sym (get_or-take m (drop at t) (4 * i + j) 0 (omega arith)))
 
 -- A log that holds too many is not sound; one that does not is sound if its held part is.
 module _ (t : List ℕ) (p : ℕ) where
-  pub log-full : (h : ℕ) → h ≡ held t p → logMost < h → false ≡ logSound t p
-  unfolding logSound
-  log-full h e most = rw (lt-leb (held t p) logMost (omega arith))
+  pub log_full : (h : ℕ) → h ≡ held t p → log_most < h → false ≡ log_sound t p
+  unfolding log_sound
+  log_full h e most = rw (lt-leb (held t p) log_most (omega arith))
 
-  pub log-scanned : (n h at k : ℕ) (r : Bool) → n ≡ count t → h ≡ held t p → h ≤ logMost → at ≡ log_at (form_of t) p
-      → r ≡ every h (λ i. recordSound n (recordAt (take k (drop at t)) i))
+  pub log_scanned : (n h at k : ℕ) (r : Bool) → n ≡ count t → h ≡ held t p → h ≤ log_most → at ≡ log_at (form_of t) p
+      → r ≡ every h (λ i. record_sound n (record_at (take k (drop at t)) i))
       → k ≡ 4 * h
-      → r ≡ logSound t p
-  unfolding logSound
-  log-scanned n h at k r en eh most ea er ek =
-      rw (er, en, ea, ek, ← eh, le-leb h logMost most)
-      (every-same h _ _ (λ i below. ap (recordSound (count t)) (recordAt-held t (log_at (form_of t) p) h (4 * logMost) i below (omega arith))))
+      → r ≡ log_sound t p
+  unfolding log_sound
+  log_scanned n h at k r en eh most ea er ek =
+      rw (er, en, ea, ek, ← eh, le-leb h log_most most)
+      (every_same h _ _ (λ i below. ap (record_sound (count t)) (record_at-held t (log_at (form_of t) p) h (4 * log_most) i below (omega arith))))
 
 -- The table's answer from its parts, in the order of the tests.
 module _ (t : List ℕ) where
-  pub unsound-length : (length t ≡ formWords (form_of t) → ⊥) → false ≡ sound t
+  pub unsound_length : (length t ≡ form_words (form_of t) → ⊥) → false ≡ sound t
   unfolding sound
-  unsound-length wrong = rw (ne_eqb (length t) (formWords (form_of t)) wrong)
+  unsound_length wrong = rw (ne_eqb (length t) (form_words (form_of t)) wrong)
 
-  pub unsound-few : (n : ℕ) → length t ≡ formWords (form_of t) → n ≡ count t → n < 2 → false ≡ sound t
+  pub unsound_few : (n : ℕ) → length t ≡ form_words (form_of t) → n ≡ count t → n < 2 → false ≡ sound t
   unfolding sound
-  unsound-few n right en few = rw (eq-eqb (length t) (formWords (form_of t)) right, ← en, lt-leb 2 n few)
+  unsound_few n right en few = rw (eq-eqb (length t) (form_words (form_of t)) right, ← en, lt-leb 2 n few)
 
-  pub unsound-many : (n : ℕ) → length t ≡ formWords (form_of t) → n ≡ count t → 2 ≤ n → nodesMost < n → false ≡ sound t
+  pub unsound_many : (n : ℕ) → length t ≡ form_words (form_of t) → n ≡ count t → 2 ≤ n → nodes_most < n → false ≡ sound t
   unfolding sound
-  unsound-many n right en enough many = rw (eq-eqb (length t) (formWords (form_of t)) right, ← en, le-leb 2 n enough, lt-leb n nodesMost many)
+  unsound_many n right en enough many = rw (eq-eqb (length t) (form_words (form_of t)) right, ← en, le-leb 2 n enough, lt-leb n nodes_most many)
 
-  pub sound-logs : (n : ℕ) (r : Bool) → length t ≡ formWords (form_of t) → n ≡ count t → 2 ≤ n → n ≤ nodesMost → r ≡ every n (logSound t) → r ≡ sound t
+  pub sound_logs : (n : ℕ) (r : Bool) → length t ≡ form_words (form_of t) → n ≡ count t → 2 ≤ n → n ≤ nodes_most → r ≡ every n (log_sound t) → r ≡ sound t
   unfolding sound
-  sound-logs n r right en enough most er = rw (eq-eqb (length t) (formWords (form_of t)) right, ← en, le-leb 2 n enough, le-leb n nodesMost most) er
+  sound_logs n r right en enough most er = rw (eq-eqb (length t) (form_words (form_of t)) right, ← en, le-leb 2 n enough, le-leb n nodes_most most) er

@@ -12,9 +12,9 @@ use Rattle.meaning.specs.declared.Action.{Action}
 use Rattle.meaning.specs.declared.Action.TheVariants.{Write, Session, Purge, Deliver}
 use Rattle.meaning.specs.declared.Line.TheVariants.{Act}
 use Rattle.meaning.specs.declared.Framed.TheVariants.{Length}
-use Rattle.meaning.specs.Steps.{outcomeAbove}
-use Rattle.meaning.specs.Frames.{journalKinds, widthsIn, frame, wide, readLine, frameReply, frameAfter}
-use Rattle.meaning.proofs.FrameTheorems.{frame-reads, frame-injective, written-reads}
+use Rattle.meaning.specs.Steps.{outcome_above}
+use Rattle.meaning.specs.Frames.{journal_kinds, widths_in, frame, wide, read_line, frame_reply, frame_after}
+use Rattle.meaning.proofs.FrameTheorems.{frame_reads, frame_injective, written_reads}
 
 -- each field fits the width that the enum declares for it, by the same test that a contract has of its parameters
 abbrev pub Typed : Action → Type 0
@@ -29,16 +29,16 @@ byte n h = omega (arith, h.fits)
 word : (n : ℕ) → Fits w32 n → n < 4294967296
 word n h = omega (arith, h.fits)
 
-pub typed-wide : (x : Action) → Typed x → wide x ≡ true
-unfolding wide widthsIn journalKinds
-typed-wide (Write p t b v) h =
+pub typed_wide : (x : Action) → Typed x → wide x ≡ true
+unfolding wide widths_in journal_kinds
+typed_wide (Write p t b v) h =
     cc (
       lt-ltb p 256 (byte p h.0),
       lt-ltb t 4294967296 (word t h.1),
       lt-ltb b 4294967296 (word b h.2),
       lt-ltb v 256 (byte v h.3),
     )
-typed-wide (Session a b ca cb o) h =
+typed_wide (Session a b ca cb o) h =
     cc (
       lt-ltb a 256 (byte a h.0),
       lt-ltb b 256 (byte b h.1),
@@ -46,17 +46,17 @@ typed-wide (Session a b ca cb o) h =
       lt-ltb cb 4294967296 (word cb h.3),
       lt-ltb o 256 (byte o h.4),
     )
-typed-wide (Purge p) h = cc (lt-ltb p 256 (byte p h))
-typed-wide (Deliver p) h = cc (lt-ltb p 256 (byte p h))
+typed_wide (Purge p) h = cc (lt-ltb p 256 (byte p h))
+typed_wide (Deliver p) h = cc (lt-ltb p 256 (byte p h))
 
 -- so of such actions: "reading that frame gives the step back", no two have one frame, and what the writer wrote reads as the step
-pub typed-reads : (x : Action) (line : ℕ) (l : List ℕ) → Typed x → outcomeAbove x ≡ false → frame x ≡ l ++ (10 ∷ [])
-    → readLine line l ≡ Act (record { line = line; action = x })
-typed-reads x line l h = frame-reads x line l (typed-wide x h)
+pub typed_reads : (x : Action) (line : ℕ) (l : List ℕ) → Typed x → outcome_above x ≡ false → frame x ≡ l ++ (10 ∷ [])
+    → read_line line l ≡ Act (record { line = line; action = x })
+typed_reads x line l h = frame_reads x line l (typed_wide x h)
 
-pub typed-injective : (x y : Action) → Typed x → Typed y → frame x ≡ frame y → x ≡ y
-typed-injective x y h k = frame-injective x y (typed-wide x h) (typed-wide y k)
+pub typed_injective : (x y : Action) → Typed x → Typed y → frame x ≡ frame y → x ≡ y
+typed_injective x y h k = frame_injective x y (typed_wide x h) (typed_wide y k)
 
-pub typed-written : (out : List ℕ) (x : Action) (line k : ℕ) → Typed x → frameReply out x ≡ Length k
-    → readLine line (take (k - 1) (frameAfter out x)) ≡ Act (record { line = line; action = x })
-typed-written out x line k h = written-reads out x line k (typed-wide x h)
+pub typed_written : (out : List ℕ) (x : Action) (line k : ℕ) → Typed x → frame_reply out x ≡ Length k
+    → read_line line (take (k - 1) (frame_after out x)) ≡ Act (record { line = line; action = x })
+typed_written out x line k h = written_reads out x line k (typed_wide x h)

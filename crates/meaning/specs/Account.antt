@@ -6,15 +6,15 @@ use Rattle.meaning.specs.declared.Action.TheVariants.{Write, Session, Purge, Del
 use Rattle.meaning.specs.declared.Step.{Step}
 use Rattle.meaning.specs.Rows.{keep}
 use Rattle.meaning.specs.Table.{Form, fresh}
-use Rattle.meaning.specs.Steps.{finishesA, finishesB, refusal, after}
+use Rattle.meaning.specs.Steps.{finishes_a, finishes_b, refusal, after}
 
 -- one record is another, word for word; a list has a record
-unfoldable pub sameRecord : Record → Record → Bool
-sameRecord r s = eqb r.origin s.origin && (eqb r.timestamp s.timestamp && (eqb r.block s.block && eqb r.verdict s.verdict))
+unfoldable pub same_record : Record → Record → Bool
+same_record r s = eqb r.origin s.origin && (eqb r.timestamp s.timestamp && (eqb r.block s.block && eqb r.verdict s.verdict))
 
 unfoldable pub has : Record → List Record → Bool
 has r [] = false
-has r (s ∷ ss) = sameRecord r s || has r ss
+has r (s ∷ ss) = same_record r s || has r ss
 
 -- "all that the partner's account held at its beginning and its own lacked", "in the order of the partner's account"
 unfoldable pub lacking : List Record → List Record → List Record
@@ -32,9 +32,9 @@ nothing = record { written = []; of = λ p. [] }
 unfoldable pub gains : ℕ → List Record → (ℕ → List Record) → ℕ → List Record
 gains p new of q = cond (eqb q p) (of q ++ new) (of q)
 
-abbrev pub gainsIf : Bool → ℕ → List Record → (ℕ → List Record) → ℕ → List Record
-gainsIf true p new of = gains p new of
-gainsIf false p new of = of
+abbrev pub gains_if : Bool → ℕ → List Record → (ℕ → List Record) → ℕ → List Record
+gains_if true p new of = gains p new of
+gains_if false p new of = of
 
 -- "a node gains its own writes, and from each session it finishes all that the partner's account held at its beginning and its own lacked"
 unfoldable pub noted : Action → Account → Account
@@ -44,7 +44,7 @@ noted (Write p t b v) x =
 noted (Session a b ca cb o) x =
     record {
       written = x.written;
-      of = gainsIf (finishesB o) b (lacking (x.of b) (x.of a)) (gainsIf (finishesA o) a (lacking (x.of a) (x.of b)) x.of);
+      of = gains_if (finishes_b o) b (lacking (x.of b) (x.of a)) (gains_if (finishes_a o) a (lacking (x.of a) (x.of b)) x.of);
     }
 noted (Purge p) x = x
 noted (Deliver p) x = x
@@ -54,15 +54,15 @@ pub record Run : Type 0 where
   pub table : List ℕ
   pub account : Account
 
-abbrev pub noteIf : ℕ → Action → Account → Account
-noteIf zero a x = noted a x
-noteIf (suc k) a x = x
+abbrev pub note_if : ℕ → Action → Account → Account
+note_if zero a x = noted a x
+note_if (suc k) a x = x
 
 unfoldable pub stepped : Run → Step → Run
 stepped x s =
     record {
       table = after x.table s.action;
-      account = noteIf (refusal x.table s.action) s.action x.account;
+      account = note_if (refusal x.table s.action) s.action x.account;
     }
 
 -- What befalls a run, one event after the other: a step is one

@@ -1,7 +1,7 @@
 -- What each action does to one node. Document 01, "The three actions"; document 02, T-04 and T-06.
 use Rattle.std.specs.Prelude.{Bool, true, false, not, List, [], ◌∷◌, ◌++◌, map, ℕ, min, max, get_or, set, leb}
 use Rattle.meaning.specs.declared.Record.{Record}
-use Rattle.meaning.specs.Rows.{all, keep, least, raise, raiseEach, covers, newer, due, inOrder}
+use Rattle.meaning.specs.Rows.{all, keep, least, raise, raise_each, covers, newer, due, in_order}
 use Rattle.meaning.specs.Table.{Form, Vectors, Columns, Node}
 
 -- a node's own summary entry
@@ -36,7 +36,7 @@ sent mine theirs = newer mine.summary theirs.log
 
 -- On columns a side that finishes "takes the greater starting value entry by entry", in every column
 abbrev pub merged : Node → Node → List (List ℕ)
-merged mine theirs = raiseEach mine.columns theirs.columns
+merged mine theirs = raise_each mine.columns theirs.columns
 
 -- "and its own column also takes the partner's own"; on vectors, where no column stands, the summary takes the partner's
 unfoldable pub learnt : ℕ → Node → Node → List ℕ
@@ -64,13 +64,13 @@ purged leaves x = record { summary = x.summary; acks = x.acks; columns = x.colum
 
 -- what a purge of a node with mark m goes by on vectors: "the smallest entry of p's acknowledgement row"; and it "removes only records that are also
 -- not above the mark"
-unfoldable pub limitOf : ℕ → Node → ℕ
-limitOf m x = min (least x.acks) m
+unfoldable pub limit_of : ℕ → Node → ℕ
+limit_of m x = min (least x.acks) m
 
 -- "Every held record whose timestamp is at most" that "leaves"; on columns "every column's entry for its origin is at least its timestamp", and no mark
 -- is read
 unfoldable pub leaves : Form → ℕ → Node → Record → Bool
-leaves Vectors m x r = leb r.timestamp (limitOf m x)
+leaves Vectors m x r = leb r.timestamp (limit_of m x)
 leaves Columns m x r = all (λ c. covers c r) x.columns
 
 -- what is smallest of each node: its acknowledgement, or its column's smallest entry
@@ -89,7 +89,7 @@ unfoldable pub waiting : ℕ → Node → List Record
 waiting m x = due m (least x.summary) x.log
 
 unfoldable pub given : ℕ → Node → List Record
-given m x = inOrder (waiting m x)
+given m x = in_order (waiting m x)
 
 -- and it "raises the mark to that entry where it is greater"; the node itself stays
 unfoldable pub raised : ℕ → Node → ℕ

@@ -15,13 +15,13 @@ told t (Session a b ca cb o) lists = lists
 told t (Purge p) lists = lists
 told t (Deliver p) lists = gains p (given (mark t p) (node t p)) lists
 
-abbrev pub toldIf : ℕ → List ℕ → Action → (ℕ → List Record) → ℕ → List Record
-toldIf zero t a lists = told t a lists
-toldIf (suc k) t a lists = lists
+abbrev pub told_if : ℕ → List ℕ → Action → (ℕ → List Record) → ℕ → List Record
+told_if zero t a lists = told t a lists
+told_if (suc k) t a lists = lists
 
 -- what an event does to them, from the run before it
 unfoldable pub heard : Run → Event → (ℕ → List Record) → ℕ → List Record
-heard x (AStep s) lists = toldIf (refusal x.table s.action) x.table s.action lists
+heard x (AStep s) lists = told_if (refusal x.table s.action) x.table s.action lists
 
 unfoldable pub hears : Run → (ℕ → List Record) → List Event → ℕ → List Record
 hears x lists [] = lists

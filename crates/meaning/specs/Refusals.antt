@@ -7,11 +7,11 @@ pub record Test : Type 0 where
   pub place : ℕ
   pub applies : Bool
 
-abbrev pub testAt : ℕ → ℕ → Bool → Test
-testAt k p b = record { number = k; place = p; applies = b }
+abbrev pub test_at : ℕ → ℕ → Bool → Test
+test_at k p b = record { number = k; place = p; applies = b }
 
 abbrev pub test : ℕ → Bool → Test
-test k b = testAt k 0 b
+test k b = test_at k 0 b
 
 -- "the first that applies is given, and none is given otherwise": 0 for none
 unfoldable pub first : List Test → ℕ
@@ -19,6 +19,6 @@ first [] = 0
 first (x ∷ xs) = cond x.applies x.number (first xs)
 
 -- and the place that it tells, 0 for none
-unfoldable pub firstPlace : List Test → ℕ
-firstPlace [] = 0
-firstPlace (x ∷ xs) = cond x.applies x.place (firstPlace xs)
+unfoldable pub first_place : List Test → ℕ
+first_place [] = 0
+first_place (x ∷ xs) = cond x.applies x.place (first_place xs)

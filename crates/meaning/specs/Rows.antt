@@ -10,12 +10,12 @@ unless zero new old = new
 unless (suc k) new old = old
 
 -- a text's characters, as bytes
-abbrev pub charsFrom : ℕ → ℕ → String → List ℕ
-charsFrom zero i s = []
-charsFrom (suc k) i s = code (char_at s i) ∷ charsFrom k (suc i) s
+abbrev pub chars_from : ℕ → ℕ → String → List ℕ
+chars_from zero i s = []
+chars_from (suc k) i s = code (char_at s i) ∷ chars_from k (suc i) s
 
 abbrev pub ascii : String → List ℕ
-ascii s = charsFrom (len s) 0 s
+ascii s = chars_from (len s) 0 s
 
 -- the test f passes at each number below n
 unfoldable pub every : ℕ → (ℕ → Bool) → Bool
@@ -27,14 +27,14 @@ unfoldable pub all : {A : Type 0} → (A → Bool) → List A → Bool
 all f [] = true
 all f (x ∷ xs) = f x && all f xs
 
-abbrev pub keepIf : {A : Type 0} → Bool → A → List A → List A
-keepIf true x xs = x ∷ xs
-keepIf false x xs = xs
+abbrev pub keep_if : {A : Type 0} → Bool → A → List A → List A
+keep_if true x xs = x ∷ xs
+keep_if false x xs = xs
 
 -- the elements at which f passes, in their order
 unfoldable pub keep : {A : Type 0} → (A → Bool) → List A → List A
 keep f [] = []
-keep f (x ∷ xs) = keepIf (f x) x (keep f xs)
+keep f (x ∷ xs) = keep_if (f x) x (keep f xs)
 
 -- the smallest entry of a row
 unfoldable pub least : List ℕ → ℕ
@@ -43,10 +43,10 @@ least (x ∷ []) = x
 least (x ∷ (y ∷ ys)) = min x (least (y ∷ ys))
 
 -- where it stands: "the lowest among equals"
-unfoldable pub leastAt : List ℕ → ℕ
-leastAt [] = 0
-leastAt (x ∷ []) = 0
-leastAt (x ∷ (y ∷ ys)) = cond (leb x (least (y ∷ ys))) 0 (suc (leastAt (y ∷ ys)))
+unfoldable pub least_at : List ℕ → ℕ
+least_at [] = 0
+least_at (x ∷ []) = 0
+least_at (x ∷ (y ∷ ys)) = cond (leb x (least (y ∷ ys))) 0 (suc (least_at (y ∷ ys)))
 
 -- "entry by entry, the greater of both"
 unfoldable pub raise : List ℕ → List ℕ → List ℕ
@@ -55,10 +55,10 @@ raise (x ∷ xs) [] = []
 raise (x ∷ xs) (y ∷ ys) = max x y ∷ raise xs ys
 
 -- T-06. The same of columns, one after the other
-unfoldable pub raiseEach : List (List ℕ) → List (List ℕ) → List (List ℕ)
-raiseEach [] ds = []
-raiseEach (c ∷ cs) [] = []
-raiseEach (c ∷ cs) (d ∷ ds) = raise c d ∷ raiseEach cs ds
+unfoldable pub raise_each : List (List ℕ) → List (List ℕ) → List (List ℕ)
+raise_each [] ds = []
+raise_each (c ∷ cs) [] = []
+raise_each (c ∷ cs) (d ∷ ds) = raise c d ∷ raise_each cs ds
 
 -- entry by entry, the smaller of both
 unfoldable pub lower : List ℕ → List ℕ → List ℕ
@@ -97,17 +97,17 @@ unfoldable pub inserted : Record → List Record → List Record
 inserted r [] = r ∷ []
 inserted r (s ∷ ss) = cond (earlier r s) (r ∷ (s ∷ ss)) (s ∷ inserted r ss)
 
-unfoldable pub inOrder : List Record → List Record
-inOrder [] = []
-inOrder (r ∷ rs) = inserted r (inOrder rs)
+unfoldable pub in_order : List Record → List Record
+in_order [] = []
+in_order (r ∷ rs) = inserted r (in_order rs)
 
 -- a log's words: "rows of 4: origin, timestamp, block, verdict"
-unfoldable pub recordAt : List ℕ → ℕ → Record
-recordAt w i = record { origin = get_or w (4 * i) 0; timestamp = get_or w (4 * i + 1) 0; block = get_or w (4 * i + 2) 0; verdict = get_or w (4 * i + 3) 0 }
+unfoldable pub record_at : List ℕ → ℕ → Record
+record_at w i = record { origin = get_or w (4 * i) 0; timestamp = get_or w (4 * i + 1) 0; block = get_or w (4 * i + 2) 0; verdict = get_or w (4 * i + 3) 0 }
 
 unfoldable pub records : ℕ → List ℕ → List Record
 records zero w = []
-records (suc k) w = records k w ++ (recordAt w k ∷ [])
+records (suc k) w = records k w ++ (record_at w k ∷ [])
 
 unfoldable pub words : List Record → List ℕ
 words [] = []

@@ -5,14 +5,14 @@ use Rattle.meaning.specs.declared.Class.{Class}
 use Rattle.meaning.specs.declared.Class.TheVariants.{NotRead, PageCache, PlatterGood, PlatterBad, Repaired, Reserved}
 use Rattle.meaning.specs.declared.Count.{Count}
 use Rattle.meaning.specs.declared.Count.TheVariants.{Counted, Refused}
-use Rattle.meaning.specs.Rows.{every, keep, recordAt, records}
+use Rattle.meaning.specs.Rows.{every, keep, record_at, records}
 use Rattle.meaning.specs.Refusals.{test, first}
-use Rattle.meaning.specs.Table.{logMost, absent, node, sound}
+use Rattle.meaning.specs.Table.{log_most, absent, node, sound}
 
 -- "00–0F not read; 10–1F answered from page cache; 20–2F read from platter, good; 30–3F read from platter, bad;
 -- 40–4F repaired and read back; 50–FF reserved"
-unfoldable pub classOf : ℕ → Class
-classOf v =
+unfoldable pub class_of : ℕ → Class
+class_of v =
     cond (leb v 0x0f) NotRead
     (cond (leb v 0x1f) PageCache
     (cond (leb v 0x2f) PlatterGood
@@ -20,21 +20,21 @@ classOf v =
     (cond (leb v 0x4f) Repaired Reserved))))
 
 -- "Scrubbed" is 10–4F, "touched" 20–4F
-abbrev pub isScrubbed : Class → Bool
-isScrubbed NotRead = false
-isScrubbed PageCache = true
-isScrubbed PlatterGood = true
-isScrubbed PlatterBad = true
-isScrubbed Repaired = true
-isScrubbed Reserved = false
+abbrev pub is_scrubbed : Class → Bool
+is_scrubbed NotRead = false
+is_scrubbed PageCache = true
+is_scrubbed PlatterGood = true
+is_scrubbed PlatterBad = true
+is_scrubbed Repaired = true
+is_scrubbed Reserved = false
 
-abbrev pub isTouched : Class → Bool
-isTouched NotRead = false
-isTouched PageCache = false
-isTouched PlatterGood = true
-isTouched PlatterBad = true
-isTouched Repaired = true
-isTouched Reserved = false
+abbrev pub is_touched : Class → Bool
+is_touched NotRead = false
+is_touched PageCache = false
+is_touched PlatterGood = true
+is_touched PlatterBad = true
+is_touched Repaired = true
+is_touched Reserved = false
 
 -- T-05: "different pairs of origin and block". A record's pair, and whether a pair stands in a list
 pub record Pair : Type 0 where
@@ -57,15 +57,15 @@ different [] = []
 different (x ∷ xs) = cond (among x xs) (different xs) (x ∷ different xs)
 
 -- the different pairs "with at least one record of that class"
-unfoldable pub pairsOf : (Class → Bool) → List Record → List Pair
-pairsOf f rs = different (map pair_of (keep (λ r. f (classOf r.verdict)) rs))
+unfoldable pub pairs_of : (Class → Bool) → List Record → List Pair
+pairs_of f rs = different (map pair_of (keep (λ r. f (class_of r.verdict)) rs))
 
 -- how many there are
 unfoldable pub scrubbed : List Record → ℕ
-scrubbed rs = length (pairsOf isScrubbed rs)
+scrubbed rs = length (pairs_of is_scrubbed rs)
 
 unfoldable pub touched : List Record → ℕ
-touched rs = length (pairsOf isTouched rs)
+touched rs = length (pairs_of is_touched rs)
 
 -- "The gap is the difference."
 unfoldable pub gap : List Record → ℕ
@@ -75,34 +75,34 @@ unfoldable pub counted : List Record → Count
 counted rs = Counted (scrubbed rs) (touched rs) (gap rs)
 
 -- "Over a lent list of 0 to 64 records of four words (else, or with a verdict above 255, refusal 1 and zero counts)"
-unfoldable pub countRefusal : List ℕ → ℕ
-countRefusal w =
+unfoldable pub count_refusal : List ℕ → ℕ
+count_refusal w =
     first
     (test 1 (not (eqb (length w % 4) 0)) ∷
-    test 1 (ltb (4 * logMost) (length w)) ∷
-    test 1 (not (every (length w / 4) (λ i. leb (recordAt w i).verdict 255))) ∷
+    test 1 (ltb (4 * log_most) (length w)) ∷
+    test 1 (not (every (length w / 4) (λ i. leb (record_at w i).verdict 255))) ∷
     [])
 
-abbrev pub countIs : ℕ → List Record → Count
-countIs zero rs = counted rs
-countIs (suc k) rs = Refused (suc k)
+abbrev pub count_is : ℕ → List Record → Count
+count_is zero rs = counted rs
+count_is (suc k) rs = Refused (suc k)
 
-unfoldable pub verdictCount : List ℕ → Count
-verdictCount w = countIs (countRefusal w) (records (length w / 4) w)
+unfoldable pub verdict_count : List ℕ → Count
+verdict_count w = count_is (count_refusal w) (records (length w / 4) w)
 
 -- The count over a node's log: 1 for a table that is not sound, then 3 for a node out of range
-unfoldable pub nodeCount : List ℕ → ℕ → Count
-nodeCount t p = countIs (first (test 1 (not (sound t)) ∷ test 3 (absent t p) ∷ [])) (node t p).log
+unfoldable pub node_count : List ℕ → ℕ → Count
+node_count t p = count_is (first (test 1 (not (sound t)) ∷ test 3 (absent t p) ∷ [])) (node t p).log
 
-abbrev pub countValues : Count → List ℕ
-countValues (Counted s t g) = 0 ∷ s ∷ t ∷ g ∷ []
-countValues (Refused k) = k ∷ 0 ∷ 0 ∷ 0 ∷ []
+abbrev pub count_values : Count → List ℕ
+count_values (Counted s t g) = 0 ∷ s ∷ t ∷ g ∷ []
+count_values (Refused k) = k ∷ 0 ∷ 0 ∷ 0 ∷ []
 
 -- Document 01's values of each class: its first and its last verdict byte
-abbrev pub classRange : Class → List ℕ
-classRange NotRead = 0x00 ∷ 0x0f ∷ []
-classRange PageCache = 0x10 ∷ 0x1f ∷ []
-classRange PlatterGood = 0x20 ∷ 0x2f ∷ []
-classRange PlatterBad = 0x30 ∷ 0x3f ∷ []
-classRange Repaired = 0x40 ∷ 0x4f ∷ []
-classRange Reserved = 0x50 ∷ 0xff ∷ []
+abbrev pub class_range : Class → List ℕ
+class_range NotRead = 0x00 ∷ 0x0f ∷ []
+class_range PageCache = 0x10 ∷ 0x1f ∷ []
+class_range PlatterGood = 0x20 ∷ 0x2f ∷ []
+class_range PlatterBad = 0x30 ∷ 0x3f ∷ []
+class_range Repaired = 0x40 ∷ 0x4f ∷ []
+class_range Reserved = 0x50 ∷ 0xff ∷ []

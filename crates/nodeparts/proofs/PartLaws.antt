@@ -6,9 +6,9 @@ use Prim.Native.String.{String}
 use native.Mathlib.Omega.{arith}
 use lib.ListN.{length, get_or, take, drop, length-take, length-drop}
 use Rattle.meaning.specs.Rows.{ascii}
-use Rattle.meaning.specs.Table.{Vectors, form_of, formWords, part, count}
+use Rattle.meaning.specs.Table.{Vectors, form_of, form_words, part, count}
 use Rattle.meaning.specs.Journals.{spaced, said}
-use Rattle.meaning.proofs.TableLaws.{form-is}
+use Rattle.meaning.proofs.TableLaws.{form_is}
 
 -- the part of a list between two places, as the code lends it
 pub between : (a n : ℕ) (t : List ℕ) → take (a + n - a) (drop a t) ≡ part a n t
@@ -17,18 +17,18 @@ between a n t =
     let e : a + n - a ≡ n = omega arith in
     rw e
 
-pub length-between : (a n : ℕ) (t : List ℕ) → a + n ≤ length t → length (take (a + n - a) (drop a t)) ≡ n
-length-between a n t h = simp (length-take, length-drop) (omega arith)
+pub length_between : (a n : ℕ) (t : List ℕ) → a + n ≤ length t → length (take (a + n - a) (drop a t)) ≡ n
+length_between a n t h = simp (length-take, length-drop) (omega arith)
 
 -- a table of that length is one of vectors
-pub long-form : (t : List ℕ) → length t ≡ formWords Vectors → length t ≡ formWords (form_of t)
-long-form t e = rw (form-is Vectors t e) e
+pub long_form : (t : List ℕ) → length t ≡ form_words Vectors → length t ≡ form_words (form_of t)
+long_form t e = rw (form_is Vectors t e) e
 
 -- the words of the table that are printed, by their places
-pub count-is : (t : List ℕ) → count t ≡ get_or t 0 0
+pub count_is : (t : List ℕ) → count t ≡ get_or t 0 0
 unfolding count
-count-is t = refl
+count_is t = refl
 
-pub said-is : (word : String) (vs : List ℕ) → ascii word ++ spaced vs ≡ said word vs
+pub said_is : (word : String) (vs : List ℕ) → ascii word ++ spaced vs ≡ said word vs
 unfolding said
-said-is word vs = refl
+said_is word vs = refl

@@ -3,13 +3,13 @@
 ghost use Rattle.std.specs.Prelude.{◌≡◌, true};
 ghost use Rattle.meaning.specs.Frames.{wide};
 ghost use Rattle.looks.specs.Applied.{Applied};
-ghost use Rattle.oneline.specs.OneLine.{refusedLine, stepIn, AppliedLine};
+ghost use Rattle.oneline.specs.OneLine.{refused_line, step_in, AppliedLine};
 
 use meaning::{Answer, Reply};
 
 // A line's refusal, at its place
 fn refused(number: u32, place: usize) -> Answer
-    ensures { result ≡ refusedLine number place }
+    ensures { result ≡ refused_line number place }
 {
     Answer {
         reply: Reply::Refused { number },
@@ -19,8 +19,8 @@ fn refused(number: u32, place: usize) -> Answer
 
 // The step of a line's six words, its kind and its fields, on any words of a table: what it reports; a refusal changes no word.
 fn apply_words(t: &mut [u32], kind: u32, a: u32, b: u32, c: u32, d: u32, e: u32) -> Reply
-    requires { wide (stepIn kind a b c d e) ≡ true }
-    ensures { Applied t.old (stepIn kind a b c d e) result t.new }
+    requires { wide (step_in kind a b c d e) ≡ true }
+    ensures { Applied t.old (step_in kind a b c d e) result t.new }
 {
     let node = a as u8;
     match kind {

@@ -1,8 +1,8 @@
 // What a session settles before it changes a word of a table known to be sound: which side finishes, what each begins with, and whether it has
 // room. Document 01, "The three actions". Inner functions: what they require, the table's entry points show.
 ghost use Rattle.std.specs.Prelude.{◌≡◌, ◌||◌, ◌+◌, ◌≤◌, ◌<◌, length, set, eqb};
-ghost use Rattle.meaning.specs.Table.{nodesMost, count, part, Sound};
-ghost use Rattle.openings.specs.Begun.{heldLog, crowds, Shows, Starts};
+ghost use Rattle.meaning.specs.Table.{nodes_most, count, part, Sound};
+ghost use Rattle.openings.specs.Begun.{held_log, crowds, Shows, Starts};
 
 use arrivals::newer_count;
 use rows::{copy_row, least_with};
@@ -16,8 +16,8 @@ pub fn finishes(outcome: u8, only: u8) -> bool
 
 // Fills a row with one of a table and changes one word. All 16 words are copied, whatever n is: a fixed length compiles to a few moves.
 fn row_with(row: &mut [u32], t: &[u32], at: usize, i: usize, v: u32)
-    requires { (length row.old ≡ nodesMost) × (at + nodesMost ≤ length t.now) × (i < nodesMost) }
-    ensures { row.new ≡ set (part at nodesMost t.now) i v }
+    requires { (length row.old ≡ nodes_most) × (at + nodes_most ≤ length t.now) × (i < nodes_most) }
+    ensures { row.new ≡ set (part at nodes_most t.now) i v }
 {
     let end = at + layout::NODES_MOST;
     copy_row(row, &t[at..end]);
@@ -27,7 +27,7 @@ fn row_with(row: &mut [u32], t: &[u32], at: usize, i: usize, v: u32)
 // "the own summary entry becomes the reading, then the own acknowledgement entry becomes the smallest entry of that summary": the starting
 // values of a node, "what each sends", are the first n entries of both rows. A node of columns has no acknowledgement: `acks` is left as it is.
 pub fn opening(summary: &mut [u32], acks: &mut [u32], t: &[u32], p: usize, n: usize, reading: u32)
-    requires summary_len { (length summary.old ≡ nodesMost) × (length acks.old ≡ nodesMost) }
+    requires summary_len { (length summary.old ≡ nodes_most) × (length acks.old ≡ nodes_most) }
     requires sound { Sound t.now × (p < count t.now) × (n ≡ count t.now) }
     ensures { Starts t.now p n reading summary.new acks.new }
 {
@@ -51,7 +51,7 @@ pub fn overfills(
     shown: usize,
 ) -> bool
     requires { Shows t.now q known.now had shown }
-    ensures { result ≡ crowds finishes known.now had (heldLog t.now q shown) }
+    ensures { result ≡ crowds finishes known.now had (held_log t.now q shown) }
 {
     if !finishes {
         return false;

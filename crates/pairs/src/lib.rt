@@ -1,14 +1,14 @@
 // The rows of at most 64 records by their pair of origin and block, in 64 slots with a chain each: no allocation, no list of more than 64.
 // Inner functions: what they require, the crate `verdicts` shows. Document 02, T-05.
 ghost use Rattle.std.specs.Prelude.{◌≡◌, not, ◌*◌, ◌-◌, ◌≤◌, ◌<◌, length, get_or, set};
-ghost use Rattle.meaning.specs.Rows.{recordAt};
+ghost use Rattle.meaning.specs.Rows.{record_at};
 ghost use Rattle.meaning.specs.Verdicts.{pair_of, same_pair};
-ghost use Rattle.pairs.specs.Chains.{Rising, Seeks, aPair, goesOn, slot_of};
+ghost use Rattle.pairs.specs.Chains.{Rising, Seeks, a_pair, goes_on, slot_of};
 
 // The slot of a pair. A block's is 1.012 slots after the one before, and an origin's 37.59: blocks that are read one after another, at one origin or
 // at many, hardly share a slot, and those at any other distance are spread.
 pub fn slot_of(origin: u32, block: u32) -> usize
-    ensures { (result ≡ slot_of (aPair origin block)) × (result < 64) }
+    ensures { (result ≡ slot_of (a_pair origin block)) × (result < 64) }
 {
     let mixed = 67915001 * (block as u64) + 2522691884 * (origin as u64);
     (mixed / 67108864 % 64) as usize
@@ -17,7 +17,7 @@ pub fn slot_of(origin: u32, block: u32) -> usize
 // Has the record before row k another pair?
 fn other_pair(words: &[u32], k: usize, origin: u32, block: u32) -> bool
     requires { (0 < k) × (4 * k ≤ length words.now) }
-    ensures { result ≡ not (same_pair (aPair origin block) (pair_of (recordAt words.now (k - 1)))) }
+    ensures { result ≡ not (same_pair (a_pair origin block) (pair_of (record_at words.now (k - 1)))) }
 {
     if origin != words[4 * k - 4] {
         return true;
@@ -28,7 +28,7 @@ fn other_pair(words: &[u32], k: usize, origin: u32, block: u32) -> bool
 // Is there a record before row k that has another pair?
 fn goes_on(words: &[u32], k: usize, origin: u32, block: u32) -> bool
     requires { 4 * k ≤ length words.now }
-    ensures { result ≡ goesOn words.now (aPair origin block) k }
+    ensures { result ≡ goes_on words.now (a_pair origin block) k }
 {
     if k == 0 {
         return false;
@@ -39,7 +39,7 @@ fn goes_on(words: &[u32], k: usize, origin: u32, block: u32) -> bool
 // The record of the chain from k that has this pair, or 0.
 pub fn find(words: &[u32], links: &[u8], from: usize, origin: u32, block: u32) -> usize
     requires { Rising words.now links.now × (4 * from ≤ length words.now) }
-    ensures { Seeks words.now links.now (aPair origin block) from result }
+    ensures { Seeks words.now links.now (a_pair origin block) from result }
 {
     let mut k = from;
     while goes_on(words, k, origin, block) {

@@ -2,17 +2,17 @@
 use mathlib.Core.List.{[], ◌∷◌, ◌++◌}
 use Rattle.meaning.proofs.OneReply.{OneReply}
 use Rattle.answers.proofs.ValueLaws.{both}
-use Rattle.pollencart.proofs.applies.pollencart_apply_line.Kinds as line-kinds
+use Rattle.pollencart.proofs.applies.pollencart_apply_line.Kinds as line_kinds
 use Rattle.pollencart.proofs.applies.pollencart_apply_line.Reads as line
-use Rattle.pollencart.proofs.applies.pollencart_apply_lines.Kinds as lines-kinds
+use Rattle.pollencart.proofs.applies.pollencart_apply_lines.Kinds as lines_kinds
 use Rattle.pollencart.proofs.applies.pollencart_apply_lines.Reads as lines
 
 pub one_line :
-    OneReply 5 line-kinds.ps line-kinds.r line.Post
+    OneReply 5 line_kinds.ps line_kinds.r line.Post
     (λ κs x s. (x ∷ s.1.1.0.now ∷ s.1.1.1.0.now ∷ s.1.1.1.1.0.now ∷ []) ++ s.0.now)
 one_line κs a x y s s' p q = both p.0 q.0 p.1 q.1
 
-pub one-lines :
-    OneReply 6 lines-kinds.ps lines-kinds.r lines.Post
+pub one_lines :
+    OneReply 6 lines_kinds.ps lines_kinds.r lines.Post
     (λ κs x s. (x ∷ s.1.1.0.now ∷ s.1.1.1.0.now ∷ s.1.1.1.1.0.now ∷ s.1.1.1.1.1.0.now ∷ []) ++ s.0.now)
-one-lines κs a x y s s' p q = both p.0 q.0 p.1 q.1
+one_lines κs a x y s s' p q = both p.0 q.0 p.1 q.1

@@ -1,6 +1,6 @@
 // The verdict count for C: the refusal number is returned, both counts and their gap are stored, zero if refused.
 ghost use Rattle.std.specs.Prelude.{◌≡◌, [], ◌∷◌};
-ghost use Rattle.meaning.specs.Verdicts.{verdictCount, nodeCount, countValues};
+ghost use Rattle.meaning.specs.Verdicts.{verdict_count, node_count, count_values};
 
 use answers::store;
 
@@ -12,7 +12,7 @@ pub extern "C" fn pollencart_count(
     touched: &mut u32,
     gap: &mut u32,
 ) -> u32
-    ensures { (result ∷ scrubbed.new ∷ touched.new ∷ gap.new ∷ []) ≡ countValues (verdictCount words.now) }
+    ensures { (result ∷ scrubbed.new ∷ touched.new ∷ gap.new ∷ []) ≡ count_values (verdict_count words.now) }
 {
     store(verdicts::count(words), scrubbed, touched, gap)
 }
@@ -26,7 +26,7 @@ pub extern "C" fn pollencart_count_node(
     touched: &mut u32,
     gap: &mut u32,
 ) -> u32
-    ensures { (result ∷ scrubbed.new ∷ touched.new ∷ gap.new ∷ []) ≡ countValues (nodeCount table.now node) }
+    ensures { (result ∷ scrubbed.new ∷ touched.new ∷ gap.new ∷ []) ≡ count_values (node_count table.now node) }
 {
     store(verdicts::count_node(table, node), scrubbed, touched, gap)
 }

@@ -1,15 +1,15 @@
 // Frames for C: check a line, read all of it at once, its kind and fields one by one, write each kind. Thin over `reading`, `words` and `writing`.
 ghost use Rattle.std.specs.Prelude.{◌≡◌, [], ◌∷◌, ◌+◌, get_or};
 ghost use Rattle.meaning.specs.declared.Action.TheVariants.{Write, Session, Purge, Deliver};
-ghost use Rattle.meaning.specs.Frames.{readLine, lineFault, lineValues};
-ghost use Rattle.answers.specs.Told.{LineRead, Framed, Started, faultValues};
+ghost use Rattle.meaning.specs.Frames.{read_line, line_fault, line_values};
+ghost use Rattle.answers.specs.Told.{LineRead, Framed, Started, fault_values};
 
 use answers::{locate, report};
 
 // 0 for a line that reads as a start or a step, else the number of its refusal, and its place in the line through the reference, 0 for none.
 #[unsafe(no_mangle)]
 pub extern "C" fn pollencart_check_line(line: &[u8], place: &mut usize) -> u32
-    ensures { (result ∷ place.new ∷ []) ≡ faultValues (lineFault line.now) }
+    ensures { (result ∷ place.new ∷ []) ≡ fault_values (line_fault line.now) }
 {
     let fault = reading::check(line);
     locate(fault, place)
@@ -27,7 +27,7 @@ pub extern "C" fn pollencart_read_line(line: &[u8], values: &mut [u32], place: &
 // The kind of a line, 0 for one that is refused. A start's is 0 too: the check tells them apart.
 #[unsafe(no_mangle)]
 pub extern "C" fn pollencart_kind(line: &[u8]) -> u32
-    ensures { result ≡ get_or (lineValues (readLine 0 line.now)) 2 0 }
+    ensures { result ≡ get_or (line_values (read_line 0 line.now)) 2 0 }
 {
     reading::kind(line)
 }
@@ -35,7 +35,7 @@ pub extern "C" fn pollencart_kind(line: &[u8]) -> u32
 // The field of a line at this place among its kind's fields, from 0; 0 for a refused line and for a field that the kind has not.
 #[unsafe(no_mangle)]
 pub extern "C" fn pollencart_field(line: &[u8], index: u32) -> u32
-    ensures { result ≡ get_or (lineValues (readLine 0 line.now)) (3 + index) 0 }
+    ensures { result ≡ get_or (line_values (read_line 0 line.now)) (3 + index) 0 }
 {
     reading::field(line, index)
 }

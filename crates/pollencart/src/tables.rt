@@ -1,7 +1,7 @@
 // The table for C: a fresh one, and each of the four actions on the caller's own words. Thin over the crate `table`.
 ghost use Rattle.std.specs.Prelude.{◌≡◌, [], ◌∷◌};
 ghost use Rattle.meaning.specs.declared.Action.TheVariants.{Write, Session, Purge};
-ghost use Rattle.meaning.specs.Table.{freshRefusal, madeFresh};
+ghost use Rattle.meaning.specs.Table.{fresh_refusal, made_fresh};
 ghost use Rattle.answers.specs.Told.{Stepped, DeliveryTold};
 
 use answers::{first_of, number_of, second_of};
@@ -9,7 +9,7 @@ use answers::{first_of, number_of, second_of};
 // Makes a fresh table of n nodes of the words lent.
 #[unsafe(no_mangle)]
 pub extern "C" fn pollencart_fresh(table: &mut [u32], n: u32) -> u32
-    ensures { (result ≡ freshRefusal table.old n) × (table.new ≡ madeFresh table.old n) }
+    ensures { (result ≡ fresh_refusal table.old n) × (table.new ≡ made_fresh table.old n) }
 {
     table::fresh(table, n)
 }

@@ -8,7 +8,7 @@ use borrow.Author.Tests.{lt-ltb, le-ltb}
 use lib.ListN.{length, get_or, take, set, length-append}
 use lib.Seq.{take-suc}
 use Rattle.meaning.specs.Table.{place}
-use Rattle.meaning.specs.Journals.{decimalIn, decimal, spaced}
+use Rattle.meaning.specs.Journals.{decimal_in, decimal, spaced}
 use Rattle.meaning.proofs.PlaceLaws.{place-append, place_none, set-place}
 use Rattle.printing.specs.Wrote.{Wrote}
 
@@ -39,22 +39,22 @@ wrote_as {t = t} {at = at} e h w =
     }
 
 -- a text, where it is written and the place after it are one
-pub one-wrote : {t t' t'' : List ℕ} {at to to' : ℕ} {xs : List ℕ} {most : ℕ} → Wrote t at xs most to t' → Wrote t at xs most to' t''
+pub one_wrote : {t t' t'' : List ℕ} {at to to' : ℕ} {xs : List ℕ} {most : ℕ} → Wrote t at xs most to t' → Wrote t at xs most to' t''
     → ◌≡◌ {A = List ℕ} (to ∷ t') (to' ∷ t'')
-one-wrote w w' = ap₂ ◌∷◌ (w.to ∙ sym w'.to) (w.is ∙ sym w'.is)
+one_wrote w w' = ap₂ ◌∷◌ (w.to ∙ sym w'.to) (w.is ∙ sym w'.is)
 
 -- the digits of a number, by the definition's clauses
-pub digits-none : (v : ℕ) → decimalIn 0 v ≡ []
-unfolding decimalIn
-digits-none v = refl
+pub digits_none : (v : ℕ) → decimal_in 0 v ≡ []
+unfolding decimal_in
+digits_none v = refl
 
-pub digits-one : (k v : ℕ) → (k ≡ 0 → ⊥) → v < 10 → decimalIn k v ≡ (48 + v % 10) ∷ []
-unfolding decimalIn
-digits-one zero v n h = absurd (n refl)
-digits-one (suc k) v n h = rw (lt-ltb v 10 h) (ap (λ (x : ℕ). (48 + x) ∷ []) (omega arith))
+pub digits_one : (k v : ℕ) → (k ≡ 0 → ⊥) → v < 10 → decimal_in k v ≡ (48 + v % 10) ∷ []
+unfolding decimal_in
+digits_one zero v n h = absurd (n refl)
+digits_one (suc k) v n h = rw (lt-ltb v 10 h) (ap (λ (x : ℕ). (48 + x) ∷ []) (omega arith))
 
-pub digits_more : (k v : ℕ) → (k ≡ 0 → ⊥) → 10 ≤ v → decimalIn k v ≡ decimalIn (k - 1) (v / 10) ++ ((48 + v % 10) ∷ [])
-unfolding decimalIn
+pub digits_more : (k v : ℕ) → (k ≡ 0 → ⊥) → 10 ≤ v → decimal_in k v ≡ decimal_in (k - 1) (v / 10) ++ ((48 + v % 10) ∷ [])
+unfolding decimal_in
 digits_more zero v n h = absurd (n refl)
 digits_more (suc k) v n h =
     let e : suc k - 1 ≡ k = omega arith in
@@ -65,17 +65,17 @@ pub spaced-none : [] ≡ spaced []
 unfolding spaced
 spaced-none = refl
 
-pub spaced-more : (vs : List ℕ) (v : ℕ) → spaced (vs ++ (v ∷ [])) ≡ spaced vs ++ spaced (v ∷ [])
+pub spaced_more : (vs : List ℕ) (v : ℕ) → spaced (vs ++ (v ∷ [])) ≡ spaced vs ++ spaced (v ∷ [])
 unfolding spaced
-spaced-more [] v = refl
-spaced-more (x ∷ vs) v =
-    ap (λ (l : List ℕ). 32 ∷ (decimal x ++ l)) (spaced-more vs v) ∙
+spaced_more [] v = refl
+spaced_more (x ∷ vs) v =
+    ap (λ (l : List ℕ). 32 ∷ (decimal x ++ l)) (spaced_more vs v) ∙
     ap (λ (l : List ℕ). 32 ∷ l) (sym (append_assoc (decimal x) (spaced vs) (spaced (v ∷ []))))
 
 -- one number, with a space before it
-pub spaced-one : (v : ℕ) → (32 ∷ []) ++ decimal v ≡ spaced (v ∷ [])
+pub spaced_one : (v : ℕ) → (32 ∷ []) ++ decimal v ≡ spaced (v ∷ [])
 unfolding spaced
-spaced-one v = ap (λ (l : List ℕ). 32 ∷ l) (sym (append-nil (decimal v)))
+spaced_one v = ap (λ (l : List ℕ). 32 ∷ l) (sym (append-nil (decimal v)))
 
 -- the words of a list up to a place, and one more
 pub take_more : (l : List ℕ) (i : ℕ) → i < length l → take (i + 1) l ≡ take i l ++ (get_or l i 0 ∷ [])

@@ -9,6 +9,6 @@ pub record Wrote (t : List ℕ) (at : ℕ) (text : List ℕ) (most r : ℕ) (t' 
   pub is : t' ≡ place at text t
 
 -- The number that decimal digits say, the higher ones first, after those already read
-unfoldable pub valueFrom : ℕ → List ℕ → ℕ
-valueFrom v [] = v
-valueFrom v (c ∷ cs) = valueFrom (10 * v + (c - 48)) cs
+unfoldable pub value_from : ℕ → List ℕ → ℕ
+value_from v [] = v
+value_from v (c ∷ cs) = value_from (10 * v + (c - 48)) cs

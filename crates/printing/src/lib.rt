@@ -1,7 +1,7 @@
 // Bytes and numbers in decimal, printed into a lent buffer. Document 01, "Frames and journals": what the replay prints.
 // Each function writes at a place and answers the place after what it wrote; its caller shows that there is room.
 ghost use Rattle.std.specs.Prelude.{[], ◌∷◌, ◌+◌, ◌≤◌, length};
-ghost use Rattle.meaning.specs.Journals.{decimalIn, decimal, spaced};
+ghost use Rattle.meaning.specs.Journals.{decimal_in, decimal, spaced};
 ghost use Rattle.printing.specs.Wrote.{Wrote};
 
 // One byte.
@@ -16,7 +16,7 @@ pub fn put(out: &mut [u8], at: usize, b: u8) -> usize
 // A number in decimal, of at most so many digits, the higher ones first.
 fn digits(out: &mut [u8], at: usize, most: usize, v: usize) -> usize
     requires { at + most ≤ length out.old }
-    ensures { Wrote out.old at (decimalIn most v) most result out.new }
+    ensures { Wrote out.old at (decimal_in most v) most result out.new }
 {
     if most == 0 {
         return at;

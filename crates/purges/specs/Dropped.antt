@@ -3,39 +3,39 @@
 use Rattle.std.specs.Prelude.{◌≡◌, Bool, List, ℕ, ◌*◌, ◌≤◌, ◌<◌, length}
 use Rattle.meaning.specs.declared.Action.{Action}
 use Rattle.meaning.specs.declared.Record.{Record}
-use Rattle.meaning.specs.Table.{form_of, log_at, logMost, count, held, node, part, putNode, Sound}
+use Rattle.meaning.specs.Table.{form_of, log_at, log_most, count, held, node, part, put_node, Sound}
 use Rattle.meaning.specs.Node.{purged}
 use Rattle.meaning.specs.Steps.{refusal, leaving, lagging, after}
-use Rattle.meaning.specs.Journals.{oneIf}
+use Rattle.meaning.specs.Journals.{one_if}
 use Rattle.logs.specs.Carry.{Puts, stay, AllBarred}
 
 -- where node p's log begins, and its words
-abbrev pub logFrom : ℕ → List ℕ → ℕ
-logFrom p t = log_at (form_of t) p
+abbrev pub log_from : ℕ → List ℕ → ℕ
+log_from p t = log_at (form_of t) p
 
-abbrev pub logOf : ℕ → List ℕ → List ℕ
-logOf p t = part (logFrom p t) (4 * logMost) t
+abbrev pub log_of : ℕ → List ℕ → List ℕ
+log_of p t = part (log_from p t) (4 * log_most) t
 
 -- A node of a sound table, how many records it holds, and, where records are held to a row of bars, an entry in it for the origin of each
 pub record Drops (t : List ℕ) (p k : ℕ) (barred : Bool) (bars : List ℕ) : Type 0 where
-  pub isSound : Sound t
+  pub is_sound : Sound t
   pub there : p < count t
   pub many : k ≡ held t p
-  pub room : k ≤ logMost
+  pub room : k ≤ log_most
   pub each : AllBarred barred bars (node t p).log
 
 -- the records that stay, put where the log begins
 abbrev pub Closed : List ℕ → ℕ → (Record → Bool) → ℕ → List ℕ → Type 0
-Closed t p leaves r u = Puts (logFrom p t) (stay leaves (node t p).log) t r u
+Closed t p leaves r u = Puts (log_from p t) (stay leaves (node t p).log) t r u
 
 -- what is then left
 pub record Dropped (t : List ℕ) (p : ℕ) (leaves : Record → Bool) (r : ℕ) (u : List ℕ) : Type 0 where
   pub many : r ≡ length (purged leaves (node t p)).log
-  pub puts : u ≡ putNode p (purged leaves (node t p)) t
+  pub puts : u ≡ put_node p (purged leaves (node t p)) t
 
 -- A node of a sound table, n its count, and how many records it holds
 pub record Cuts (t : List ℕ) (p n k : ℕ) : Type 0 where
-  pub isSound : Sound t
+  pub is_sound : Sound t
   pub nodes : n ≡ count t
   pub there : p < n
   pub many : k ≡ held t p
@@ -49,4 +49,4 @@ pub record CutDone (t : List ℕ) (p n k left at : ℕ) (u : List ℕ) : Type 0 
 
 -- one step: 1 where it is refused, else 0, and the words at exit
 abbrev pub Passed : List ℕ → Action → ℕ → List ℕ → Type 0
-Passed t x k u = (k ≡ oneIf (refusal t x)) × (u ≡ after t x)
+Passed t x k u = (k ≡ one_if (refusal t x)) × (u ≡ after t x)

@@ -3,11 +3,11 @@
 ghost use Rattle.std.specs.Prelude.{◌≡◌, ◌+◌, ◌-◌, ◌*◌, ◌≤◌, ◌<◌, length, replicate};
 ghost use Rattle.meaning.specs.declared.Action.TheVariants.{Purge};
 ghost use Rattle.meaning.specs.Rows.{least};
-ghost use Rattle.meaning.specs.Table.{Vectors, Columns, form_of, formWords, nodesMost, logMost, count, node, place, Sound};
+ghost use Rattle.meaning.specs.Table.{Vectors, Columns, form_of, form_words, nodes_most, log_most, count, node, place, Sound};
 ghost use Rattle.meaning.specs.Steps.{limit, lagging};
 ghost use Rattle.logs.specs.Carry.{goes, FirstLeaving};
 ghost use Rattle.looks.specs.Applied.{Applied};
-ghost use Rattle.purges.specs.Dropped.{logFrom, logOf, Drops, Closed, Dropped, Cuts, CutDone, Passed};
+ghost use Rattle.purges.specs.Dropped.{log_from, log_of, Drops, Closed, Dropped, Cuts, CutDone, Passed};
 
 use columns::lowest;
 use logs::{close_up, first_leaving};
@@ -63,7 +63,7 @@ fn limit_alone(t: &[u32], p: usize, n: usize) -> u32
 // The row of the first record of p's log that leaves; `held` where none does.
 fn first_of(t: &[u32], p: usize, held: usize, barred: bool, bars: &[u32], limit: u32) -> usize
     requires { Drops t.now p held barred bars.now }
-    ensures { FirstLeaving (goes barred bars.now limit) held (logOf p t.now) result }
+    ensures { FirstLeaving (goes barred bars.now limit) held (log_of p t.now) result }
 {
     let at = layout::log_at(t, p);
     let end = at + layout::LOG_WORDS;
@@ -82,7 +82,7 @@ fn close_log(
     limit: u32,
 ) -> usize
     requires drops { Drops t.old p held barred bars.now × (first < held) }
-    requires first_leaving { FirstLeaving (goes barred bars.now limit) held (logOf p t.old) first }
+    requires first_leaving { FirstLeaving (goes barred bars.now limit) held (log_of p t.old) first }
     ensures { Closed t.old p (goes barred bars.now limit) result t.new × (result ≤ held) }
 {
     let at = layout::log_at(t, p);
@@ -93,8 +93,8 @@ fn close_log(
 
 // "the rows so freed become zero"
 fn clear_rows(t: &mut [u32], p: usize, left: usize, held: usize)
-    requires { (length t.old ≡ formWords (form_of t.old)) × (p < nodesMost) × (left ≤ held) × (held ≤ logMost) }
-    ensures { t.new ≡ place (logFrom p t.old + 4 * left) (replicate (4 * (held - left)) 0) t.old }
+    requires { (length t.old ≡ form_words (form_of t.old)) × (p < nodes_most) × (left ≤ held) × (held ≤ log_most) }
+    ensures { t.new ≡ place (log_from p t.old + 4 * left) (replicate (4 * (held - left)) 0) t.old }
 {
     let at = layout::log_at(t, p);
     let from = at + 4 * left;

@@ -1,23 +1,23 @@
 -- Two replies that a public contract of this crate allows are equal.
 use mathlib.Core.Path.{sym, ◌∙◌}
 use Rattle.meaning.proofs.OneReply.{OneResult}
-use Rattle.quick.proofs.sure.Kinds as sure-kinds
+use Rattle.quick.proofs.sure.Kinds as sure_kinds
 use Rattle.quick.proofs.sure.Reads as sure
-use Rattle.quick.proofs.short_held.Kinds as short-held-kinds
-use Rattle.quick.proofs.short_held.Reads as short-held
-use Rattle.quick.proofs.is_write.Kinds as is-write-kinds
-use Rattle.quick.proofs.is_write.Reads as is-write
-use Rattle.quick.proofs.is_session.Kinds as is-session-kinds
-use Rattle.quick.proofs.is_session.Reads as is-session
+use Rattle.quick.proofs.short_held.Kinds as short_held_kinds
+use Rattle.quick.proofs.short_held.Reads as short_held_lem
+use Rattle.quick.proofs.is_write.Kinds as is_write_kinds
+use Rattle.quick.proofs.is_write.Reads as is_write_lem
+use Rattle.quick.proofs.is_session.Kinds as is_session_kinds
+use Rattle.quick.proofs.is_session.Reads as is_session_lem
 
-pub one-sure : OneResult 1 sure-kinds.ps sure-kinds.r sure.Post
-one-sure κs a x y s s' p q = p ∙ sym q
+pub one_sure : OneResult 1 sure_kinds.ps sure_kinds.r sure.Post
+one_sure κs a x y s s' p q = p ∙ sym q
 
-pub one-short-held : OneResult 1 short-held-kinds.ps short-held-kinds.r short-held.Post
-one-short-held κs a x y s s' p q = p ∙ sym q
+pub one_short_held : OneResult 1 short_held_kinds.ps short_held_kinds.r short_held_lem.Post
+one_short_held κs a x y s s' p q = p ∙ sym q
 
-pub one-is-write : OneResult 1 is-write-kinds.ps is-write-kinds.r is-write.Post
-one-is-write κs a x y s s' p q = p ∙ sym q
+pub one_is_write : OneResult 1 is_write_kinds.ps is_write_kinds.r is_write_lem.Post
+one_is_write κs a x y s s' p q = p ∙ sym q
 
-pub one-is-session : OneResult 1 is-session-kinds.ps is-session-kinds.r is-session.Post
-one-is-session κs a x y s s' p q = p ∙ sym q
+pub one_is_session : OneResult 1 is_session_kinds.ps is_session_kinds.r is_session_lem.Post
+one_is_session κs a x y s s' p q = p ∙ sym q

@@ -1,7 +1,7 @@
 // The quick way: whether a line of one of the kinds' lengths is accepted, sure in both directions. A line of 24 characters can only be a write, one
 // of 26 a session, one of six a start, a purge or a delivery. Inner functions: what they require, `contents`, `reading` and `words` show.
 ghost use Rattle.std.specs.Prelude.{◌≡◌, ◌<◌, length};
-ghost use Rattle.heads.specs.Heads.{isOutcome, short_of, accepted};
+ghost use Rattle.heads.specs.Heads.{is_outcome, short_of, accepted};
 
 use digits::total;
 use heads::{NO_LINE, short_line};
@@ -22,7 +22,7 @@ pub fn is_write(s: &[u8]) -> bool
 
 // Whether two characters are an outcome's, 0 to 3.
 fn is_outcome(high: u8, low: u8) -> bool
-    ensures { result ≡ isOutcome high low }
+    ensures { result ≡ is_outcome high low }
 {
     if high != b'0' {
         return false;

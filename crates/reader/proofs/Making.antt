@@ -34,20 +34,20 @@ module _ {M : Type 1} {𝓤 : Ura M} (𝓛 : Logic 𝓤) (mem : Memory → SProp
 
 module _ {M : Type 1} {𝓤 : Ura M} (𝓛 : Logic 𝓤) (mem : Memory → SProp 𝓤) (run : Routine → Fun 𝓤)
     (κ : Lft) (q : Share) (s : Bor (List ℕ)) (i n : ℕ) (ok : i < 2 ^ 64) where
-  abbrev pub to-new : (New 𝓛 mem run).Ghost
-  to-new = (((κ, tt), (q, tt), tt, (s, (i, tt)), (slice s ∷ [], (vint w64 i ∷ [], tt))), tt)
+  abbrev pub to_new : (New 𝓛 mem run).Ghost
+  to_new = (((κ, tt), (q, tt), tt, (s, (i, tt)), (slice s ∷ [], (vint w64 i ∷ [], tt))), tt)
 
-  pub goes-new : ent 𝓤 (OnThree 𝓛 κ q s i n) (sep 𝓤 ((New 𝓛 mem run).pre to-new) (sem 𝓛 (OwnSlice κ s)))
-  goes-new =
+  pub goes_new : ent 𝓤 (OnThree 𝓛 κ q s i n) (sep 𝓤 ((New 𝓛 mem run).pre to_new) (sem 𝓛 (OwnSlice κ s)))
+  goes_new =
       qed 𝓛 ((‵ (flft κ q) ⊛ ‵ ftrue) ∷ ‵ (owns (ShrSlice (named 0) κ u8 ∷ usize ∷ usize ∷ []) (s, (i, (n, tt))) (three s i n)) ∷ []) ∵
       move ! (1 ∷ []) $ fsplit ! $ move ! (1 ∷ []) $ drop ! $
       use1 𝓛 (‵ (OwnSlice κ s) ⊛ ‵ (OwnSlice κ s)) ((shr_slice_copy 𝓛 (named 0) κ u8).twice s (slice s ∷ [])) $ split ! $
       nothing ! $ owned ! usize (Is usize) (uint_Makes 𝓛 w64) i _ (refl, ok) $ fjoin ! $ move ! (1 ∷ 0 ∷ []) $ fjoin ! $
       move ! (2 ∷ 0 ∷ []) $
-      use2 𝓛 (raw ((New 𝓛 mem run).pre to-new))
+      use2 𝓛 (raw ((New 𝓛 mem run).pre to_new))
       (qed 𝓛 ((‵ (flft κ q) ⊛ ‵ ftrue) ∷ ‵ (owns (ShrSlice (named 0) κ u8 ∷ usize ∷ []) (s, (i, tt)) (slice s ∷ [], (vint w64 i ∷ [], tt))) ∷ []) ∵
       join ! $ frame ! $ done !) $
       frame ! $ done !
 
-  pub new-said : (r : Reader) → ent 𝓤 (ensured 𝓛 new.ended (new.clauses 𝓛 mem run) (κ, tt) (s, (i, tt)) tt r) (fact 𝓤 (Stands s i r))
-  new-said r = ex_e 𝓤 _ (λ ws. snd∗ 𝓤 (sem 𝓛 (lasts new.ended (κ, tt) (s, (i, tt)) ws)) (fact 𝓤 (Stands s i r)))
+  pub new_said : (r : Reader) → ent 𝓤 (ensured 𝓛 new.ended (new.clauses 𝓛 mem run) (κ, tt) (s, (i, tt)) tt r) (fact 𝓤 (Stands s i r))
+  new_said r = ex_e 𝓤 _ (λ ws. snd∗ 𝓤 (sem 𝓛 (lasts new.ended (κ, tt) (s, (i, tt)) ws)) (fact 𝓤 (Stands s i r)))

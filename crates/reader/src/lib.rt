@@ -3,7 +3,7 @@
 ghost use Rattle.std.specs.Prelude.{◌≡◌};
 ghost use Rattle.meaning.specs.Journals.{next_at};
 ghost use Rattle.finder.specs.Parts.{Part};
-ghost use Rattle.lineparts.specs.Reached.{partAt, positionAt};
+ghost use Rattle.lineparts.specs.Reached.{part_at, position_at};
 ghost use Rattle.reader.specs.Standing.{Stands};
 
 use meaning::Next;
@@ -31,14 +31,14 @@ pub fn next<'a>(r: Reader<'a>, line: usize) -> Next
 
 // That line's part of the caller's journal, empty with a refusal and at the end.
 pub fn part<'a>(r: Reader<'a>, line: usize) -> &'a [u8]
-    ensures { Part r.entry.journal r.entry.at (partAt r.entry.journal.now r.entry.at line) result }
+    ensures { Part r.entry.journal r.entry.at (part_at r.entry.journal.now r.entry.at line) result }
 {
     lineparts::part_at(r.journal, r.at, line)
 }
 
 // The reader after that line, or where it was with a refusal and at the end.
 pub fn moved<'a>(r: Reader<'a>, line: usize) -> Reader<'a>
-    ensures { Stands r.entry.journal (positionAt r.entry.journal.now r.entry.at line) result }
+    ensures { Stands r.entry.journal (position_at r.entry.journal.now r.entry.at line) result }
 {
     let at = lineparts::position_at(r.journal, r.at, line);
     Reader {
@@ -56,14 +56,14 @@ pub fn next_from(s: &[u8], at: usize, line: usize) -> Next
 
 // The part that a reader at a place hands back.
 pub fn part_from<'a>(s: &'a [u8], at: usize, line: usize) -> &'a [u8]
-    ensures { Part s.entry at (partAt s.now at line) result }
+    ensures { Part s.entry at (part_at s.now at line) result }
 {
     part(new(s, at), line)
 }
 
 // The position of a reader at a place after that line.
 pub fn place_from(s: &[u8], at: usize, line: usize) -> usize
-    ensures { result ≡ positionAt s.now at line }
+    ensures { result ≡ position_at s.now at line }
 {
     let r = moved(new(s, at), line);
     r.at

@@ -1,13 +1,13 @@
 // Frames read: what a single line says, whatever its bytes. Document 01, "Frames and journals".
 ghost use Rattle.std.specs.Prelude.{◌≡◌, ◌+◌, ◌<◌, length, get_or};
-ghost use Rattle.meaning.specs.Frames.{readLine, lineFault, lineValues};
+ghost use Rattle.meaning.specs.Frames.{read_line, line_fault, line_values};
 
 use meaning::{Fault, Line, Step};
 
 // The refusal of a single line (without its LF) and its place in it, for any bytes at all: the first that applies, of 12, 18, 11, 19, 20, 13 and
 // 15; two zeros for none. The other way is lent a part of the slice, so that the slice itself stays in registers.
 pub fn check(s: &[u8]) -> Fault
-    ensures { result ≡ lineFault s.now }
+    ensures { result ≡ line_fault s.now }
 {
     if quick::sure(s) {
         return Fault {
@@ -22,7 +22,7 @@ pub fn check(s: &[u8]) -> Fault
 // The kind of a line shorter than a write's.
 fn short_kind(s: &[u8]) -> u32
     requires { length s.now < 24 }
-    ensures { result ≡ get_or (lineValues (readLine 0 s.now)) 2 0 }
+    ensures { result ≡ get_or (line_values (read_line 0 s.now)) 2 0 }
 {
     let held = quick::short_held(s);
     if heads::NO_LINE <= held {
@@ -33,7 +33,7 @@ fn short_kind(s: &[u8]) -> u32
 
 // The kind of a line, 0 for one that is refused. A start's is 0 too: the check tells them apart.
 pub fn kind(s: &[u8]) -> u32
-    ensures { result ≡ get_or (lineValues (readLine 0 s.now)) 2 0 }
+    ensures { result ≡ get_or (line_values (read_line 0 s.now)) 2 0 }
 {
     if s.len() < 24 {
         return short_kind(s);
@@ -47,7 +47,7 @@ pub fn kind(s: &[u8]) -> u32
 
 // The field of a line at this place among its kind's fields, from 0; 0 for a refused line and for a field that the kind has not.
 pub fn field(s: &[u8], index: u32) -> u32
-    ensures { result ≡ get_or (lineValues (readLine 0 s.now)) (3 + index) 0 }
+    ensures { result ≡ get_or (line_values (read_line 0 s.now)) (3 + index) 0 }
 {
     if s.len() < 24 {
         return contents::short_field(s, index);
@@ -63,7 +63,7 @@ pub fn field(s: &[u8], index: u32) -> u32
 // or the first refusal that applies, of 12, 18, 11, 19, 20, 13 and 15, with its place. It is read where the quick
 // way did not tell a line at once, so it asks for the refusal first; `quick::sure` has one caller, `check`, and is compiled into it.
 pub fn read_line(s: &[u8], line: usize) -> Line
-    ensures { result ≡ readLine line s.now }
+    ensures { result ≡ read_line line s.now }
 {
     let n = s.len();
     let fault = faults::refusal(&s[0..n]);

@@ -1,7 +1,7 @@
 // Leaves over one record, four words of a row: put, read, and held to a summary. They know no offset.
 // Inner functions: what they require, the table's code shows.
 ghost use Rattle.std.specs.Prelude.{◌≡◌, not, [], ◌∷◌, ◌+◌, ◌*◌, ◌≤◌, ◌<◌, length};
-ghost use Rattle.meaning.specs.Rows.{covers, recordAt, words};
+ghost use Rattle.meaning.specs.Rows.{covers, record_at, words};
 ghost use Rattle.meaning.specs.Table.{place};
 
 use meaning::Record;
@@ -29,7 +29,7 @@ pub fn put_record(t: &mut [u32], at: usize, r: Record)
 // A record of a log, by its row.
 pub fn record_at(log: &[u32], row: usize) -> Record
     requires { 4 * row + 4 ≤ length log.now }
-    ensures { result ≡ recordAt log.now row }
+    ensures { result ≡ record_at log.now row }
 {
     let at = 4 * row;
     Record {

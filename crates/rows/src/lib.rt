@@ -2,7 +2,7 @@
 // They know no offset: where a row stands is the caller's to say. Inner functions: what they require, the table's code shows.
 ghost use Rattle.std.specs.Prelude.{◌≡◌, ◌&&◌, ◌||◌, cond, [], ◌∷◌, length, replicate, set, ltb, eqb};
 ghost use Prim.Native.Nat.{◌+◌, ◌≤◌, ◌<◌};
-ghost use Rattle.meaning.specs.Rows.{least, leastAt, raise};
+ghost use Rattle.meaning.specs.Rows.{least, least_at, raise};
 ghost use Rattle.meaning.specs.Table.{place};
 ghost use Rattle.rows.specs.Entry.{OneEntry};
 
@@ -42,7 +42,7 @@ fn place_of(low: u32, at: usize, x: u32, k: usize, i: usize) -> usize
 // just before would be read more slowly.
 pub fn least_with(row: &[u32], i: usize, v: u32) -> Least
     requires { i < length row.now }
-    ensures { (result.value ≡ least (set row.now i v)) × (result.at ≡ leastAt (set row.now i v)) }
+    ensures { (result.value ≡ least (set row.now i v)) × (result.at ≡ least_at (set row.now i v)) }
 {
     let mut low = v;
     let mut at = i;

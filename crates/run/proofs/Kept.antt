@@ -5,31 +5,31 @@ use Prim.Native.Nat.{ℕ, zero, suc, ◌<◌}
 use native.Mathlib.Omega.{arith}
 use lib.ListN.{length}
 use Rattle.meaning.specs.declared.Outcome.TheVariants.{Done}
-use Rattle.meaning.specs.Table.{Vectors, formWords}
-use Rattle.meaning.specs.Journals.{journal, outcomeOf, replayed}
+use Rattle.meaning.specs.Table.{Vectors, form_words}
+use Rattle.meaning.specs.Journals.{journal, outcome_of, replayed}
 use Rattle.meaning.specs.Account.{events, run}
 use Rattle.meaning.proofs.Demand3.{NothingLost}
-use Rattle.meaning.proofs.AccountJournals.{journal-demand3}
-use Rattle.run.specs.Run.{runOutcome, runAfter}
-use Rattle.run.proofs.Running.{run-right}
+use Rattle.meaning.proofs.AccountJournals.{journal_demand3}
+use Rattle.run.specs.Run.{run_outcome, run_after}
+use Rattle.run.proofs.Running.{run_right}
 
 -- a run that came to the journal's end tells the start's n and how many steps the journal has
-done-is : (s : List ℕ) (n k r : ℕ) → replayed s ≡ Done n k r → ((journal s).n ≡ n) × (length (journal s).rest.steps ≡ k)
+done_is : (s : List ℕ) (n k r : ℕ) → replayed s ≡ Done n k r → ((journal s).n ≡ n) × (length (journal s).rest.steps ≡ k)
 unfolding replayed
-done-is s n k r e = go (journal s).rest.badNumber e
+done_is s n k r e = go (journal s).rest.bad_number e
   where
-    go : (b : ℕ) → outcomeOf b (journal s) ≡ Done n k r → ((journal s).n ≡ n) × (length (journal s).rest.steps ≡ k)
+    go : (b : ℕ) → outcome_of b (journal s) ≡ Done n k r → ((journal s).n ≡ n) × (length (journal s).rest.steps ≡ k)
     go zero p = (cc, cc)
     go (suc b) p = absurd (let z : ◌≡◌ {A = ℕ} 0 1 = cc in omega arith)
 
 -- DEMAND 3 of every run that comes to the journal's end: whatever words were lent, the table is that of all its steps, and at each node nothing is lost
-pub run-demand3 : (t s : List ℕ) (n k r p : ℕ) → length t ≡ formWords Vectors → runOutcome t s ≡ Done n k r → p < n →
+pub run_demand3 : (t s : List ℕ) (n k r p : ℕ) → length t ≡ form_words Vectors → run_outcome t s ≡ Done n k r → p < n →
     (length (journal s).rest.steps ≡ k) ×
-    (runAfter t s ≡ (run Vectors n (events (journal s).rest.steps)).table) ×
+    (run_after t s ≡ (run Vectors n (events (journal s).rest.steps)).table) ×
     NothingLost n (run Vectors n (events (journal s).rest.steps)) p
-run-demand3 t s n k r p l e h =
-    let w = run-right t s l in
-    let d = done-is s n k r (w.0 ∙ e) in
+run_demand3 t s n k r p l e h =
+    let w = run_right t s l in
+    let d = done_is s n k r (w.0 ∙ e) in
     let q : p < (journal s).n = omega (arith, d.0) in
-    let lost = journal-demand3 t s p q in
+    let lost = journal_demand3 t s p q in
     (d.1, sym w.1 ∙ lost.0 ∙ ap (λ (m : ℕ). (run Vectors m (events (journal s).rest.steps)).table) d.0, rw d.0 at lost.1)

@@ -4,15 +4,15 @@ use mathlib.Core.List.{List, ◌∷◌}
 use Prim.Native.Nat.{ℕ}
 use Rattle.meaning.specs.declared.Outcome.{Outcome}
 use Rattle.meaning.proofs.OneReply.{OneReply}
-use Rattle.run.proofs.run.Kinds as run-kinds
+use Rattle.run.proofs.run.Kinds as run_kinds
 use Rattle.run.proofs.run.Reads as run
-use Rattle.run.proofs.replay.Kinds as replay-kinds
+use Rattle.run.proofs.replay.Kinds as replay_kinds
 use Rattle.run.proofs.replay.Reads as replay
 
-pub one-run : OneReply 2 run-kinds.ps run-kinds.r run.Post {R = Outcome × List ℕ} (λ κs x s. (x, s.1.0.now))
-one-run κs a x y s s' p q = ap₂ (λ (o : Outcome) (t : List ℕ). (o, t)) (p.outcome ∙ sym q.outcome) (p.table ∙ sym q.table)
+pub one_run : OneReply 2 run_kinds.ps run_kinds.r run.Post {R = Outcome × List ℕ} (λ κs x s. (x, s.1.0.now))
+one_run κs a x y s s' p q = ap₂ (λ (o : Outcome) (t : List ℕ). (o, t)) (p.outcome ∙ sym q.outcome) (p.table ∙ sym q.table)
 
-pub one-replay : OneReply 3 replay-kinds.ps replay-kinds.r replay.Post {R = List ℕ × List ℕ} (λ κs x s. (x ∷ s.1.0.now, s.1.1.0.now))
-one-replay κs a x y s s' p q =
+pub one_replay : OneReply 3 replay_kinds.ps replay_kinds.r replay.Post {R = List ℕ × List ℕ} (λ κs x s. (x ∷ s.1.0.now, s.1.1.0.now))
+one_replay κs a x y s s' p q =
     ap₂ (λ (t out : List ℕ). (t, out))
     (ap₂ ◌∷◌ (p.shown.long ∙ sym q.shown.long) (p.table ∙ sym q.table)) (p.shown.is ∙ sym q.shown.is)

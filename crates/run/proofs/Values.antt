@@ -2,13 +2,13 @@
 use mathlib.Core.Path.{◌≡◌, refl}
 use mathlib.Core.List.{List}
 use Prim.Native.Nat.{ℕ, zero, suc}
-use Rattle.meaning.specs.Journals.{Journal, journal, outcomeOf, outcomeValues, replayed}
-use Rattle.run.specs.Run.{journalValues}
+use Rattle.meaning.specs.Journals.{Journal, journal, outcome_of, outcome_values, replayed}
+use Rattle.run.specs.Run.{journal_values}
 
-outcome-values : (b : ℕ) (j : Journal) → outcomeValues (outcomeOf b j) ≡ journalValues b j
-outcome-values zero j = refl
-outcome-values (suc b) j = refl
+outcome_values_lem : (b : ℕ) (j : Journal) → outcome_values (outcome_of b j) ≡ journal_values b j
+outcome_values_lem zero j = refl
+outcome_values_lem (suc b) j = refl
 
-pub replayed-values : (s : List ℕ) → outcomeValues (replayed s) ≡ journalValues (journal s).rest.badNumber (journal s)
+pub replayed_values : (s : List ℕ) → outcome_values (replayed s) ≡ journal_values (journal s).rest.bad_number (journal s)
 unfolding replayed
-replayed-values s = outcome-values (journal s).rest.badNumber (journal s)
+replayed_values s = outcome_values_lem (journal s).rest.bad_number (journal s)

@@ -1,8 +1,8 @@
 // The run of a journal over a lent table: a fresh table, then each step of the journal, up to its end or the first refused line.
 // Document 01, "Frames and journals".
 ghost use Rattle.std.specs.Prelude.{◌≡◌, ◌≤◌, ◌<◌, length, true};
-ghost use Rattle.meaning.specs.Table.{Vectors, formWords, countRight};
-ghost use Rattle.text.specs.Text.{textMost};
+ghost use Rattle.meaning.specs.Table.{Vectors, form_words, count_right};
+ghost use Rattle.text.specs.Text.{text_most};
 ghost use Rattle.run.specs.Run.{RanFrom, Ran, RunTold, Replayed};
 
 use layout::TABLE_WORDS;
@@ -14,7 +14,7 @@ pub const JOURNAL_MOST: usize = 65536;
 
 // A start of n nodes: a fresh table, then the steps after its line. The start is line 1, so a refused line has the number `steps + 2`.
 fn from_start(s: &[u8], from: usize, n: u32, t: &mut [u32]) -> Outcome
-    requires { (length t.old ≡ formWords Vectors) × (countRight n ≡ true) × (0 < from) × (from ≤ length s.now) }
+    requires { (length t.old ≡ form_words Vectors) × (count_right n ≡ true) × (0 < from) × (from ≤ length s.now) }
     ensures { RanFrom s.now from n result t.new }
 {
     table::fresh(t, n);
@@ -63,7 +63,7 @@ pub fn run(s: &[u8], t: &mut [u32]) -> Outcome
 
 // The text of a run's outcome and of the table that it leaves.
 fn told(s: &[u8], t: &mut [u32], out: &mut [u8]) -> usize
-    requires { (length t.old ≡ formWords Vectors) × (textMost ≤ length out.old) }
+    requires { (length t.old ≡ form_words Vectors) × (text_most ≤ length out.old) }
     ensures { RunTold s.now t.old out.old result t.new out.new }
 {
     let outcome = run(s, t);

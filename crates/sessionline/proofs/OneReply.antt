@@ -3,8 +3,8 @@ use mathlib.Core.Path.{sym, ap₂, ◌∙◌}
 use mathlib.Core.List.{List}
 use Prim.Native.Nat.{ℕ}
 use Rattle.meaning.proofs.OneReply.{OneReply}
-use Rattle.sessionline.proofs.session_line.Kinds as session-line-kinds
-use Rattle.sessionline.proofs.session_line.Reads as session-line
+use Rattle.sessionline.proofs.session_line.Kinds as session_line_kinds
+use Rattle.sessionline.proofs.session_line.Reads as session_line_lem
 
-pub one-session-line : OneReply 2 session-line-kinds.ps session-line-kinds.r session-line.Post {R = ℕ × List ℕ} (λ κs x s. (x, s.1.0.now))
-one-session-line κs a x y s s' p q = ap₂ (λ (r : ℕ) (t : List ℕ). (r, t)) (p.tells ∙ sym q.tells) (p.leaves ∙ sym q.leaves)
+pub one_session_line : OneReply 2 session_line_kinds.ps session_line_kinds.r session_line_lem.Post {R = ℕ × List ℕ} (λ κs x s. (x, s.1.0.now))
+one_session_line κs a x y s s' p q = ap₂ (λ (r : ℕ) (t : List ℕ). (r, t)) (p.tells ∙ sym q.tells) (p.leaves ∙ sym q.leaves)

@@ -1,7 +1,7 @@
 // The step of one line that is known to be as long as a session's and to begin with its kind, as `steplines` has it of a write and a purge.
 // Inner function of the loop over a journal's lines: what it requires, the loop shows.
 ghost use Rattle.meaning.specs.Table.{Sound};
-ghost use Rattle.meaning.specs.Frames.{readLine};
+ghost use Rattle.meaning.specs.Frames.{read_line};
 ghost use Rattle.steplines.specs.StepLines.{Turned, Begins};
 
 use digits::values;
@@ -11,7 +11,7 @@ use steplines::{UNSURE, count};
 // The step of a session's 26 characters. The sum is taken over the last 24, which fill whole vectors, and lacks the kind's 2.
 pub fn session_line(s: &[u8], t: &mut [u32]) -> usize
     requires { Sound t.old × Begins s.now 26 50 }
-    ensures { Turned t.old (readLine 1 s.now) result t.new }
+    ensures { Turned t.old (read_line 1 s.now) result t.new }
 {
     let mut v = [0u8; 24];
     if values(&s[2..26], &mut v[..]) != 254 {

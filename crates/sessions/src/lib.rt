@@ -1,7 +1,7 @@
 // Session: two nodes of a table known to be sound trade what the other lacks. Document 01, "The three actions".
 // Inner functions: what they require, the table's entry points show.
 ghost use Rattle.std.specs.Prelude.{◌≡◌, ◌≤◌, ◌<◌};
-ghost use Rattle.meaning.specs.Table.{form_of, acksWide, count, Sound};
+ghost use Rattle.meaning.specs.Table.{form_of, acks_wide, count, Sound};
 ghost use Rattle.meaning.specs.declared.Action.TheVariants.{Session};
 ghost use Rattle.looks.specs.Applied.{Applied};
 
@@ -12,7 +12,7 @@ use openings::opening;
 
 // How many acknowledgements a node of n has: on columns none, so that a session lends empty rows of them.
 fn acks_wide(t: &[u32], n: usize) -> usize
-    ensures { (result ≡ acksWide (form_of t.now) n) × (result ≤ n) }
+    ensures { (result ≡ acks_wide (form_of t.now) n) × (result ≤ n) }
 {
     if layout::has_columns(t) {
         return 0;

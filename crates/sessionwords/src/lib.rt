@@ -1,8 +1,8 @@
 // A session's kind and fields as six words, by the quick way, as `six` has it of a write. Nothing is written for a line that is refused.
 // Inner functions: what they require, `words` shows.
 ghost use Rattle.std.specs.Prelude.{◌≡◌, length, leb};
-ghost use Rattle.numbers.specs.Numbers.{joinedAt, Joins};
-ghost use Rattle.six.specs.Six.{metWords, Puts};
+ghost use Rattle.numbers.specs.Numbers.{joined_at, Joins};
+ghost use Rattle.six.specs.Six.{met_words, Puts};
 
 use digits::values;
 use numbers::{byte_of, word_of};
@@ -11,7 +11,7 @@ use six::put;
 // A session's six words, by the numbers of the digits after its kind; none where the outcome is above 3.
 fn put_met(v: &[u8], words: &mut [u32]) -> bool
     requires { Joins v.now 0 12 × (length words.old ≡ 6) }
-    ensures { (result ≡ leb (joinedAt v.now 20 1) 3) × (words.new ≡ metWords v.now words.old) }
+    ensures { (result ≡ leb (joined_at v.now 20 1) 3) × (words.new ≡ met_words v.now words.old) }
 {
     let outcome = byte_of(v, 20);
     if 3 < outcome {

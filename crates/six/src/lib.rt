@@ -2,7 +2,7 @@
 // them. Nothing is written for a line that is refused. A session's are `sessionwords`'. Inner functions: what they require, `words` shows.
 ghost use Rattle.std.specs.Prelude.{◌≡◌, [], ◌∷◌, length};
 ghost use Rattle.numbers.specs.Numbers.{Joins};
-ghost use Rattle.six.specs.Six.{writeWords, Puts};
+ghost use Rattle.six.specs.Six.{write_words, Puts};
 
 use digits::values;
 use numbers::{byte_of, word_of};
@@ -23,7 +23,7 @@ pub fn put(words: &mut [u32], kind: u32, a: u32, b: u32, c: u32, d: u32, e: u32)
 // A write's six words, by its digits' numbers.
 fn put_written(v: &[u8], words: &mut [u32])
     requires { Joins v.now 0 12 × (length words.old ≡ 6) }
-    ensures { words.new ≡ writeWords v.now }
+    ensures { words.new ≡ write_words v.now }
 {
     put(
         words,

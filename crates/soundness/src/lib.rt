@@ -2,8 +2,8 @@
 // The scan reads each held record once, and without a branch for each: wrong origins are counted, and the verdicts' bits are taken together. Neither
 // waits for the record before, as a greatest word would, and so several records are looked at in one turn.
 ghost use Rattle.std.specs.Prelude.{◌≡◌, cond, ◌<◌, ◌≤◌, ◌*◌, length, ltb};
-ghost use Rattle.meaning.specs.Rows.{every, recordAt};
-ghost use Rattle.meaning.specs.Table.{form_of, formWords, nodesMost, logMost, count, recordSound, logSound, sound};
+ghost use Rattle.meaning.specs.Rows.{every, record_at};
+ghost use Rattle.meaning.specs.Table.{form_of, form_words, nodes_most, log_most, count, record_sound, log_sound, sound};
 
 use layout::{LOG_MOST, NODES_MOST, RECORD_WORDS};
 
@@ -16,8 +16,8 @@ fn beyond(origin: u32, n: u32) -> u32
 
 // "every record within the held part of those logs has origin below n and verdict at most 255": the held part of one log.
 fn records_sound(w: &[u32], held: usize, n: u32) -> bool
-    requires { (held ≤ logMost) × (length w.now ≡ 4 * held) }
-    ensures { result ≡ every held (λ i. recordSound n (recordAt w.now i)) }
+    requires { (held ≤ log_most) × (length w.now ≡ 4 * held) }
+    ensures { result ≡ every held (λ i. record_sound n (record_at w.now i)) }
 {
     let mut beyonds: u32 = 0;
     let mut verdict: u32 = 0;
@@ -32,8 +32,8 @@ fn records_sound(w: &[u32], held: usize, n: u32) -> bool
 
 // The same of node p's log, with "every held number of a node below n is at most 64" before it.
 fn log_sound(t: &[u32], n: u32, p: usize) -> bool
-    requires { (length t.now ≡ formWords (form_of t.now)) × (n ≡ count t.now) × (p < nodesMost) }
-    ensures { result ≡ logSound t.now p }
+    requires { (length t.now ≡ form_words (form_of t.now)) × (n ≡ count t.now) × (p < nodes_most) }
+    ensures { result ≡ log_sound t.now p }
 {
     let held = layout::held_of(t, p) as usize;
     if LOG_MOST < held {
@@ -46,8 +46,8 @@ fn log_sound(t: &[u32], n: u32, p: usize) -> bool
 
 // The same of every node's log.
 fn logs_sound(t: &[u32], n: u32) -> bool
-    requires { (length t.now ≡ formWords (form_of t.now)) × (n ≡ count t.now) × (n ≤ nodesMost) }
-    ensures { result ≡ every n (logSound t.now) }
+    requires { (length t.now ≡ form_words (form_of t.now)) × (n ≡ count t.now) × (n ≤ nodes_most) }
+    ensures { result ≡ every n (log_sound t.now) }
 {
     let nodes = n as usize;
     let mut p: usize = 0;

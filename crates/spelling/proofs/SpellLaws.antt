@@ -17,9 +17,9 @@ pub digit_low : (v : ℕ) → v ≤ 9 → 48 + v ≡ digit v
 unfolding digit
 digit_low v h = cc (lt-ltb v 10 (omega arith))
 
-pub digit-high : (v : ℕ) → 9 < v → 55 + v ≡ digit v
+pub digit_high : (v : ℕ) → 9 < v → 55 + v ≡ digit v
 unfolding digit
-digit-high v h = cc (le-ltb v 10 h)
+digit_high v h = cc (le-ltb v 10 h)
 
 -- one more entry after those that were put
 pub set_next : (t₀ t xs : List ℕ) (at next v : ℕ) → next ≡ at + length xs → next < length t₀ → t ≡ place at xs t₀ → set t next v ≡ place at (xs ++ (v ∷ [])) t₀
@@ -32,22 +32,22 @@ pub take_more : (l : List ℕ) (k : ℕ) → k < length l → take (k + 1) l ≡
 take_more l k h = ap (λ (m : ℕ). take m l) (add-one k) ∙ take-suc l k 0 h
 
 -- two digits set are a byte put
-pub put-pair : (t : List ℕ) (at b x y : ℕ) → 2 * (at + 1) ≤ length t → x ≡ digit (b / 16) → y ≡ digit (b % 16)
+pub put_pair : (t : List ℕ) (at b x y : ℕ) → 2 * (at + 1) ≤ length t → x ≡ digit (b / 16) → y ≡ digit (b % 16)
     → set (set t (2 * at) x) (2 * at + 1) y ≡ place (2 * at) (spelled (b ∷ [])) t
 unfolding spelled
-put-pair t at b x y h p q =
+put_pair t at b x y h p q =
     rw (p, q)
     (set_next t (set t (2 * at) (digit (b / 16))) (digit (b / 16) ∷ []) (2 * at) (2 * at + 1) (digit (b % 16)) (omega arith) (omega arith)
     (set-place t (2 * at) (digit (b / 16)) (omega arith)))
 
 -- the digits of the bytes passed
-pub spell-none : (b d : List ℕ) → d ≡ place 0 (spelled (take 0 b)) d
+pub spell_none : (b d : List ℕ) → d ≡ place 0 (spelled (take 0 b)) d
 unfolding spelled
-spell-none b d = sym (place_none 0 d)
+spell_none b d = sym (place_none 0 d)
 
-pub spell-more : (b d₀ d d' : List ℕ) (k : ℕ) → k < length b → length d₀ ≡ 2 * length b → d ≡ place 0 (spelled (take k b)) d₀
+pub spell_more : (b d₀ d d' : List ℕ) (k : ℕ) → k < length b → length d₀ ≡ 2 * length b → d ≡ place 0 (spelled (take k b)) d₀
     → d' ≡ place (2 * k) (spelled (get_or b k 0 ∷ [])) d → d' ≡ place 0 (spelled (take (k + 1) b)) d₀
-spell-more b d₀ d d' k h n p q =
+spell_more b d₀ d d' k h n p q =
     let front : length (spelled (take k b)) ≡ 2 * k = length-spelled (take k b) ∙ ap (λ (m : ℕ). 2 * m) (length-take-le k b (omega arith)) in
     let back : length (spelled (get_or b k 0 ∷ [])) ≡ 2 = length-spelled (get_or b k 0 ∷ []) in
     q ∙ ap (place (2 * k) (spelled (get_or b k 0 ∷ []))) p ∙
@@ -55,6 +55,6 @@ spell-more b d₀ d d' k h n p q =
     ap (λ (r : List ℕ). place 0 r d₀) (sym (spelled-append (take k b) (get_or b k 0 ∷ []))) ∙
     ap (λ (r : List ℕ). place 0 (spelled r) d₀) (sym (take_more b k h))
 
-pub spell-all : (b d₀ d : List ℕ) (k : ℕ) → length b ≤ k → length d₀ ≡ 2 * length b → d ≡ place 0 (spelled (take k b)) d₀ → d ≡ spelled b
-spell-all b d₀ d k h n p =
+pub spell_all : (b d₀ d : List ℕ) (k : ℕ) → length b ≤ k → length d₀ ≡ 2 * length b → d ≡ place 0 (spelled (take k b)) d₀ → d ≡ spelled b
+spell_all b d₀ d k h n p =
     p ∙ ap (λ (r : List ℕ). place 0 (spelled r) d₀) (take_all k b h) ∙ place-all (spelled b) d₀ (length-spelled b ∙ sym n)

@@ -3,8 +3,8 @@
 // Inner functions of the loop over a journal's lines: what they require, it shows.
 ghost use Rattle.std.specs.Prelude.{◌≡◌, length, get_or};
 ghost use Rattle.meaning.specs.Table.{Sound};
-ghost use Rattle.meaning.specs.Frames.{readLine};
-ghost use Rattle.steplines.specs.StepLines.{refusedBy, Turned, Begins};
+ghost use Rattle.meaning.specs.Frames.{read_line};
+ghost use Rattle.steplines.specs.StepLines.{refused_by, Turned, Begins};
 
 use digits::values;
 use heads::{NO_LINE, short_line};
@@ -16,7 +16,7 @@ pub const UNSURE: usize = 2;
 
 // 1 for a refused step
 pub fn count(r: Reply) -> usize
-    ensures { result ≡ refusedBy r }
+    ensures { result ≡ refused_by r }
 {
     match r {
         Reply::Written => 0,
@@ -30,7 +30,7 @@ pub fn count(r: Reply) -> usize
 // The step of a write's 24 characters.
 pub fn write_line(s: &[u8], t: &mut [u32]) -> usize
     requires { Sound t.old × Begins s.now 24 49 }
-    ensures { Turned t.old (readLine 1 s.now) result t.new }
+    ensures { Turned t.old (read_line 1 s.now) result t.new }
 {
     let mut v = [0u8; 24];
     if values(s, &mut v[..]) != 0 {
@@ -49,7 +49,7 @@ pub fn write_line(s: &[u8], t: &mut [u32]) -> usize
 // The step of a purge's six characters. Which node lags is asked by nobody here.
 fn purge_line(s: &[u8], t: &mut [u32]) -> usize
     requires { Sound t.old × (length s.now ≡ 6) × (get_or s.now 1 0 ≡ 51) }
-    ensures { Turned t.old (readLine 1 s.now) result t.new }
+    ensures { Turned t.old (read_line 1 s.now) result t.new }
 {
     let x = short_line(s[0], s[1], s[2], s[3], s[4], s[5]);
     if NO_LINE <= x {
@@ -61,7 +61,7 @@ fn purge_line(s: &[u8], t: &mut [u32]) -> usize
 // The step of a delivery's six characters.
 fn deliver_line(s: &[u8], t: &mut [u32]) -> usize
     requires { Sound t.old × (length s.now ≡ 6) × (get_or s.now 1 0 ≡ 53) }
-    ensures { Turned t.old (readLine 1 s.now) result t.new }
+    ensures { Turned t.old (read_line 1 s.now) result t.new }
 {
     let line = short_line(s[0], s[1], s[2], s[3], s[4], s[5]);
     if NO_LINE <= line {
@@ -75,7 +75,7 @@ fn deliver_line(s: &[u8], t: &mut [u32]) -> usize
 // as if it were the only one. A start is none.
 pub fn short_step(s: &[u8], t: &mut [u32]) -> usize
     requires { Sound t.old × (length s.now ≡ 6) }
-    ensures { Turned t.old (readLine 1 s.now) result t.new }
+    ensures { Turned t.old (read_line 1 s.now) result t.new }
 {
     match s[1] {
         b'3' => purge_line(s, t),

@@ -2,7 +2,7 @@
 // The entry points, `fresh`, `apply` and those of `act`, take any words at all; what the crates below them require, they have shown.
 
 ghost use Rattle.std.specs.Prelude.{◌≡◌};
-ghost use Rattle.meaning.specs.Table.{freshRefusal, madeFresh, Sound};
+ghost use Rattle.meaning.specs.Table.{fresh_refusal, made_fresh, Sound};
 ghost use Rattle.looks.specs.Applied.{Applied};
 
 use meaning::{Action, Reply, Step};
@@ -13,7 +13,7 @@ pub mod act;
 // "A fresh table has its count set and every other word zero. Making one is refused with 1, the lent words unchanged, if the count or the
 // length is wrong." The length lent tells the form.
 pub fn fresh(t: &mut [u32], n: u32) -> u32
-    ensures { (result ≡ freshRefusal t.old n) × (t.new ≡ madeFresh t.old n) }
+    ensures { (result ≡ fresh_refusal t.old n) × (t.new ≡ made_fresh t.old n) }
 {
     if n < 2 {
         return 1;

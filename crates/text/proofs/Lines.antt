@@ -8,42 +8,42 @@ use borrow.Author.Tests.{le-leb, lt-leb}
 use lib.ListN.{length}
 use Rattle.meaning.specs.declared.Outcome.{Outcome}
 use Rattle.meaning.specs.declared.Outcome.TheVariants.{Bad, Refused, Done}
-use Rattle.meaning.specs.Journals.{outcomeValues, printed}
+use Rattle.meaning.specs.Journals.{outcome_values, printed}
 use Rattle.printing.specs.Wrote.{Wrote}
-use Rattle.textlines.specs.TextLines.{badLine, unreadLine}
-use Rattle.text.specs.Text.{Shown, printedOf, textMost, hasNodes, textFor}
+use Rattle.textlines.specs.TextLines.{bad_line, unread_line}
+use Rattle.text.specs.Text.{Shown, printed_of, text_most, has_nodes, text_for}
 
 -- what is written is what document 01 prints: an outcome's text goes by its values
-pub printed-values : (x : Outcome) (t : List ℕ) → printed x t ≡ printedOf (outcomeValues x) t
+pub printed_values : (x : Outcome) (t : List ℕ) → printed x t ≡ printed_of (outcome_values x) t
 unfolding printed
-printed-values (Bad line k p) t = refl
-printed-values (Refused k) t = refl
-printed-values (Done n steps refused) t = simp append_assoc
+printed_values (Bad line k p) t = refl
+printed_values (Refused k) t = refl
+printed_values (Done n steps refused) t = simp append_assoc
 
-pub text-values : (out : List ℕ) (x : Outcome) (t : List ℕ) → textMost ≤ length out → hasNodes x t ≡ true → textFor out x t ≡ printed x t
-unfolding textFor
-text-values out x t h e = rw (le-leb textMost (length out) h, e) (sym (printed-values x t))
+pub text_values : (out : List ℕ) (x : Outcome) (t : List ℕ) → text_most ≤ length out → has_nodes x t ≡ true → text_for out x t ≡ printed x t
+unfolding text_for
+text_values out x t h e = rw (le-leb text_most (length out) h, e) (sym (printed_values x t))
 
 -- what is written for an outcome, by the tests that led there
-pub text-short : (out : List ℕ) (x : Outcome) (t : List ℕ) → length out < textMost → [] ≡ textFor out x t
-unfolding textFor
-text-short out x t h = rw (lt-leb textMost (length out) h)
+pub text_short : (out : List ℕ) (x : Outcome) (t : List ℕ) → length out < text_most → [] ≡ text_for out x t
+unfolding text_for
+text_short out x t h = rw (lt-leb text_most (length out) h)
 
-pub text-none : (out : List ℕ) (x : Outcome) (t : List ℕ) → textMost ≤ length out → hasNodes x t ≡ false → [] ≡ textFor out x t
-unfolding textFor
-text-none out x t h e = rw (le-leb textMost (length out) h, e)
+pub text_none : (out : List ℕ) (x : Outcome) (t : List ℕ) → text_most ≤ length out → has_nodes x t ≡ false → [] ≡ text_for out x t
+unfolding text_for
+text_none out x t h e = rw (le-leb text_most (length out) h, e)
 
-pub text-whole : (out : List ℕ) (x : Outcome) (t : List ℕ) → textMost ≤ length out → hasNodes x t ≡ true → printedOf (outcomeValues x) t ≡ textFor out x t
-unfolding textFor
-text-whole out x t h e = rw (le-leb textMost (length out) h, e)
+pub text_whole : (out : List ℕ) (x : Outcome) (t : List ℕ) → text_most ≤ length out → has_nodes x t ≡ true → printed_of (outcome_values x) t ≡ text_for out x t
+unfolding text_for
+text_whole out x t h e = rw (le-leb text_most (length out) h, e)
 
-pub text-bad : (out : List ℕ) (line k p : ℕ) (t : List ℕ) → textMost ≤ length out → badLine line k p ≡ textFor out (Bad line k p) t
-text-bad out line k p t h = text-whole out (Bad line k p) t h refl
+pub text_bad : (out : List ℕ) (line k p : ℕ) (t : List ℕ) → text_most ≤ length out → bad_line line k p ≡ text_for out (Bad line k p) t
+text_bad out line k p t h = text_whole out (Bad line k p) t h refl
 
-pub text-unread : (out : List ℕ) (k : ℕ) (t : List ℕ) → textMost ≤ length out → unreadLine k ≡ textFor out (Refused k) t
-text-unread out k t h = text-whole out (Refused k) t h refl
+pub text_unread : (out : List ℕ) (k : ℕ) (t : List ℕ) → text_most ≤ length out → unread_line k ≡ text_for out (Refused k) t
+text_unread out k t h = text_whole out (Refused k) t h refl
 
 -- a text written from place 0 is the whole answer
-pub whole : {t t' : List ℕ} {r : ℕ} {text : List ℕ} {most : ℕ} → most ≤ length t → most ≤ textMost → Wrote t 0 text most r t'
+pub whole : {t t' : List ℕ} {r : ℕ} {text : List ℕ} {most : ℕ} → most ≤ length t → most ≤ text_most → Wrote t 0 text most r t'
     → Shown t text r t'
 whole h m w = record { long = omega (arith, w.to); is = w.is; fits = omega (arith, w.within); most = omega (arith, w.within) }

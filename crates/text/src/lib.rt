@@ -1,12 +1,12 @@
 // The printed text of a replay, written into a lent buffer: its first line, of the crate `textlines`, and the nodes' lines, of `nodelines`.
 // Document 01, "Frames and journals". Each inner function answers the place after what it wrote.
 ghost use Rattle.std.specs.Prelude.{◌++◌, ◌≤◌, length};
-ghost use Rattle.meaning.specs.Table.{nodesMost};
-ghost use Rattle.meaning.specs.Journals.{nodeLines};
+ghost use Rattle.meaning.specs.Table.{nodes_most};
+ghost use Rattle.meaning.specs.Journals.{node_lines};
 ghost use Rattle.printing.specs.Wrote.{Wrote};
-ghost use Rattle.textlines.specs.TextLines.{firstLine};
+ghost use Rattle.textlines.specs.TextLines.{first_line};
 ghost use Rattle.nodeparts.specs.Nodes.{Nodes};
-ghost use Rattle.text.specs.Text.{Shown, textMost, textFor};
+ghost use Rattle.text.specs.Text.{Shown, text_most, text_for};
 
 use layout::{COUNT_AT, NODES_MOST, TABLE_WORDS};
 use meaning::Outcome;
@@ -16,8 +16,8 @@ pub const TEXT_MOST: usize = 12288;
 
 // The text of a replay that came to its end: its first line and the nodes' lines.
 fn all_lines(out: &mut [u8], n: u32, steps: usize, refused: usize, t: &[u32]) -> usize
-    requires { Nodes t.now × (n ≤ nodesMost) × (textMost ≤ length out.old) }
-    ensures { Wrote out.old 0 (firstLine n steps refused ++ nodeLines n t.now) textMost result out.new }
+    requires { Nodes t.now × (n ≤ nodes_most) × (text_most ≤ length out.old) }
+    ensures { Wrote out.old 0 (first_line n steps refused ++ node_lines n t.now) text_most result out.new }
 {
     let a = textlines::first_line(out, n, steps, refused);
     nodelines::node_lines(out, a, n as usize, t)
@@ -25,8 +25,8 @@ fn all_lines(out: &mut [u8], n: u32, steps: usize, refused: usize, t: &[u32]) ->
 
 // The text of a replay that came to its end, or nothing where the table has not the words.
 fn done_text(out: &mut [u8], n: u32, steps: usize, refused: usize, t: &[u32]) -> usize
-    requires { textMost ≤ length out.old }
-    ensures { Wrote out.old 0 (textFor out.old (Outcome.Done n steps refused) t.now) textMost result out.new }
+    requires { text_most ≤ length out.old }
+    ensures { Wrote out.old 0 (text_for out.old (Outcome.Done n steps refused) t.now) text_most result out.new }
 {
     if t.len() != TABLE_WORDS {
         return 0;
@@ -43,7 +43,7 @@ fn done_text(out: &mut [u8], n: u32, steps: usize, refused: usize, t: &[u32]) ->
 // The text of a replay's outcome and table, from place 0 of the buffer, and its length.
 // Nothing is written into a buffer of less than TEXT_MOST bytes, or where the table has not the words to print.
 pub fn show(out: &mut [u8], outcome: Outcome, t: &[u32]) -> usize
-    ensures { Shown out.old (textFor out.old outcome t.now) result out.new }
+    ensures { Shown out.old (text_for out.old outcome t.now) result out.new }
 {
     if out.len() < TEXT_MOST {
         return 0;

@@ -4,7 +4,7 @@
 ghost use Rattle.std.specs.Prelude.{◌≡◌, ◌≤◌, length};
 ghost use Rattle.meaning.specs.Table.{Sound};
 ghost use Rattle.steplines.specs.StepLines.{Turned};
-ghost use Rattle.turns.specs.Turns.{ends_at, due_at, saidAt};
+ghost use Rattle.turns.specs.Turns.{ends_at, due_at, said_at};
 
 use sessionline::session_line;
 use steplines::{UNSURE, short_step, write_line};
@@ -47,7 +47,7 @@ pub fn due_at(s: &[u8], at: usize) -> usize
 // what is left to the reader of lines, the table then as it was.
 pub fn turn(s: &[u8], at: usize, due: usize, t: &mut [u32]) -> usize
     requires { Sound t.old × (at ≤ length s.now) × (due ≡ due_at s.now at) }
-    ensures { Turned t.old (saidAt s.now at) result t.new }
+    ensures { Turned t.old (said_at s.now at) result t.new }
 {
     match due {
         24 => write_line(&s[at..at + 24], t),

@@ -11,14 +11,14 @@ use lib.Dec.{leb}
 use Rattle.meaning.specs.declared.Record.{Record}
 use Rattle.meaning.specs.declared.Count.TheVariants.{Counted, Refused}
 use Rattle.meaning.specs.Refusals.{first}
-use Rattle.meaning.specs.Rows.{all, every, recordAt, records}
-use Rattle.meaning.specs.Table.{logMost}
-use Rattle.meaning.specs.Verdicts.{scrubbed, touched, gap, counted, verdictCount}
+use Rattle.meaning.specs.Rows.{all, every, record_at, records}
+use Rattle.meaning.specs.Table.{log_most}
+use Rattle.meaning.specs.Verdicts.{scrubbed, touched, gap, counted, verdict_count}
 use Rattle.meaning.proofs.BitLaws.{or_byte}
 use Rattle.meaning.proofs.RowLaws.{and_left, and_right, every-records}
 use Rattle.meaning.proofs.SoundLaws.{every-none, every_more}
-use Rattle.meaning.proofs.VerdictLaws.{whole-refusal}
-use Rattle.meaning.proofs.VerdictTheorems.{touched-most}
+use Rattle.meaning.proofs.VerdictLaws.{whole_refusal}
+use Rattle.meaning.proofs.VerdictTheorems.{touched_most}
 use Rattle.pairs.specs.Chains.{Noted, low_byte, since}
 use Rattle.pairs.proofs.KeptLaws.{noted-none}
 
@@ -30,45 +30,45 @@ moved true false true = refl
 moved true false false = refl
 
 -- records whose verdicts are bytes are as they are classed
-low-byte : (r : Record) → leb r.verdict 255 ≡ true → low_byte r ≡ r
-low-byte r h =
+low_byte_lem : (r : Record) → leb r.verdict 255 ≡ true → low_byte r ≡ r
+low_byte_lem r h =
     let l = leb-true r.verdict 255 h in
     let e : r.verdict % 256 ≡ r.verdict = omega arith in
     λ i. record { origin = r.origin; timestamp = r.timestamp; block = r.block; verdict = e i }
 
-low-bytes : (rs : List Record) → all (λ r. leb r.verdict 255) rs ≡ true → map low_byte rs ≡ rs
+low_bytes : (rs : List Record) → all (λ r. leb r.verdict 255) rs ≡ true → map low_byte rs ≡ rs
 unfolding all
-low-bytes [] h = refl
-low-bytes (r ∷ rs) h =
+low_bytes [] h = refl
+low_bytes (r ∷ rs) h =
     let f : Record → Bool = λ (x : Record). leb x.verdict 255 in
-    let e = low-byte r (and_left (f r) (all f rs) h) in
-    let ih = low-bytes rs (and_right (f r) (all f rs) h) in
+    let e = low_byte_lem r (and_left (f r) (all f rs) h) in
+    let ih = low_bytes rs (and_right (f r) (all f rs) h) in
     λ i. e i ∷ ih i
 
 module _ (w : List ℕ) where
   -- the verdict of the record that ends before word `end`
-  pub verdict-at : (end : ℕ) → end % 4 ≡ 0 → 0 < end → get_or w (end - 1) 0 ≡ (recordAt w (end / 4 - 1)).verdict
-  unfolding recordAt
-  verdict-at end even some = ap (λ (j : ℕ). get_or w j 0) (omega arith)
+  pub verdict_at : (end : ℕ) → end % 4 ≡ 0 → 0 < end → get_or w (end - 1) 0 ≡ (record_at w (end / 4 - 1)).verdict
+  unfolding record_at
+  verdict_at end even some = ap (λ (j : ℕ). get_or w j 0) (omega arith)
 
   -- The records from word `end` on are counted, and their verdicts are gathered.
   pub record Counting (end : ℕ) (heads links : List ℕ) (s t seen : ℕ) : Type 0 where
     pub inside : end ≤ length w
     pub even : end % 4 ≡ 0
     pub noted : Noted w (end / 4) heads links s t
-    pub bytes : every (length w / 4) (λ i. leb (recordAt w i).verdict 255) ≡ (every (end / 4) (λ i. leb (recordAt w i).verdict 255) && leb seen 255)
+    pub bytes : every (length w / 4) (λ i. leb (record_at w i).verdict 255) ≡ (every (end / 4) (λ i. leb (record_at w i).verdict 255) && leb seen 255)
 
-  module _ (room : length w ≤ 4 * logMost) (whole : length w % 4 ≡ 0) where
-    pub counting-none : Counting (length w) (replicate 64 0) (replicate 64 0) 0 0 0
-    counting-none =
+  module _ (room : length w ≤ 4 * log_most) (whole : length w % 4 ≡ 0) where
+    pub counting_none : Counting (length w) (replicate 64 0) (replicate 64 0) 0 0 0
+    counting_none =
         record {
           inside = omega arith;
           even = whole;
           noted = noted-none w room;
-          bytes = sym (and-true (every (length w / 4) (λ i. leb (recordAt w i).verdict 255)));
+          bytes = sym (and-true (every (length w / 4) (λ i. leb (record_at w i).verdict 255)));
         }
 
-    pub counting_more : (end s t s' t' seen v : ℕ) (heads links heads' links' : List ℕ) → 0 < end → v ≡ (recordAt w (end / 4 - 1)).verdict
+    pub counting_more : (end s t s' t' seen v : ℕ) (heads links heads' links' : List ℕ) → 0 < end → v ≡ (record_at w (end / 4 - 1)).verdict
         → Noted w (end / 4 - 1) heads' links' s' t' → Counting end heads links s t seen → Counting (end - 4) heads' links' s' t' (bit_or seen v)
     counting_more end s t s' t' seen v heads links heads' links' some ev noted' before =
         let even = before.even in
@@ -80,43 +80,43 @@ module _ (w : List ℕ) where
           noted = subst (λ (k : ℕ). Noted w k heads' links' s' t') ed noted';
           bytes =
               before.bytes ∙
-              ap (λ (k : ℕ). every k (λ i. leb (recordAt w i).verdict 255) && leb seen 255) er ∙
-              (rw (every_more, or_byte, ← ev) (moved (every (end / 4 - 1) (λ i. leb (recordAt w i).verdict 255)) (leb v 255) (leb seen 255))) ∙
-              ap (λ (k : ℕ). every k (λ i. leb (recordAt w i).verdict 255) && leb (bit_or seen v) 255) ed;
+              ap (λ (k : ℕ). every k (λ i. leb (record_at w i).verdict 255) && leb seen 255) er ∙
+              (rw (every_more, or_byte, ← ev) (moved (every (end / 4 - 1) (λ i. leb (record_at w i).verdict 255)) (leb v 255) (leb seen 255))) ∙
+              ap (λ (k : ℕ). every k (λ i. leb (record_at w i).verdict 255) && leb (bit_or seen v) 255) ed;
         }
 
     -- the answer, where all are counted: a verdict that is no byte, or the counts
     module _ (end : ℕ) (done : end ≤ 0) (heads links : List ℕ) (s t seen : ℕ) (counting : Counting end heads links s t seen) where
-      row-0 : end / 4 ≡ 0
-      row-0 = omega arith
+      row_0 : end / 4 ≡ 0
+      row_0 = omega arith
 
-      every_byte : every (length w / 4) (λ i. leb (recordAt w i).verdict 255) ≡ leb seen 255
-      every_byte = counting.bytes ∙ rw (row-0, every-none)
+      every_byte : every (length w / 4) (λ i. leb (record_at w i).verdict 255) ≡ leb seen 255
+      every_byte = counting.bytes ∙ rw (row_0, every-none)
 
-      pub count-wide : 255 < seen → Refused 1 ≡ verdictCount w
-      unfolding verdictCount first
-      count-wide wide = rw (whole-refusal w (length w / 4) (omega arith) (omega arith), every_byte, lt-leb seen 255 wide)
+      pub count-wide : 255 < seen → Refused 1 ≡ verdict_count w
+      unfolding verdict_count first
+      count-wide wide = rw (whole_refusal w (length w / 4) (omega arith) (omega arith), every_byte, lt-leb seen 255 wide)
 
       module _ (low : seen ≤ 255) where
-        all-bytes : since w (end / 4) ≡ records (length w / 4) w
-        all-bytes =
-            ap (since w) row-0 ∙
-            low-bytes (records (length w / 4) w)
+        all_bytes : since w (end / 4) ≡ records (length w / 4) w
+        all_bytes =
+            ap (since w) row_0 ∙
+            low_bytes (records (length w / 4) w)
             (sym (every-records (length w / 4) (λ x. leb x.verdict 255) w) ∙ every_byte ∙ le-leb seen 255 low)
 
         count-scrubbed : s ≡ scrubbed (records (length w / 4) w)
-        count-scrubbed = counting.noted.scrubs ∙ ap scrubbed all-bytes
+        count-scrubbed = counting.noted.scrubs ∙ ap scrubbed all_bytes
 
         count-touched : t ≡ touched (records (length w / 4) w)
-        count-touched = counting.noted.touches ∙ ap touched all-bytes
+        count-touched = counting.noted.touches ∙ ap touched all_bytes
 
         -- so the gap is a number
         pub count-gap : t ≤ s
         count-gap =
             let a = count-scrubbed in
             let b = count-touched in
-            omega (arith, touched-most (records (length w / 4) w))
+            omega (arith, touched_most (records (length w / 4) w))
 
-        pub count-all : Counted s t (s - t) ≡ verdictCount w
-        unfolding verdictCount first counted gap
-        count-all = rw (whole-refusal w (length w / 4) (omega arith) (omega arith), every_byte, le-leb seen 255 low, count-scrubbed, count-touched)
+        pub count-all : Counted s t (s - t) ≡ verdict_count w
+        unfolding verdict_count first counted gap
+        count-all = rw (whole_refusal w (length w / 4) (omega arith) (omega arith), every_byte, le-leb seen 255 low, count-scrubbed, count-touched)

@@ -5,21 +5,21 @@ use mathlib.Core.List.{List}
 use Prim.Native.Nat.{ℕ, ◌+◌, ◌-◌, ◌*◌, ◌/◌, ◌%◌, ◌<◌, ◌≤◌}
 use native.Mathlib.Omega.{arith}
 use lib.ListN.{length, get_or, set}
-use Rattle.meaning.specs.Rows.{recordAt}
-use Rattle.meaning.specs.Verdicts.{classOf, isScrubbed, isTouched, Pair, pair_of}
-use Rattle.meaning.proofs.AccountLaws.{by-test}
-use Rattle.pairs.specs.Chains.{Noted, Seeks, aPair, slot_of, touchedAt}
-use Rattle.pairs.proofs.ChainLaws.{seeks-within}
-use Rattle.pairs.proofs.KeptLaws.{head-within, noted-passed, noted-new, noted-known, noted-risen}
+use Rattle.meaning.specs.Rows.{record_at}
+use Rattle.meaning.specs.Verdicts.{class_of, is_scrubbed, is_touched, Pair, pair_of}
+use Rattle.meaning.proofs.AccountLaws.{by_test}
+use Rattle.pairs.specs.Chains.{Noted, Seeks, a_pair, slot_of, touched_at}
+use Rattle.pairs.proofs.ChainLaws.{seeks_within}
+use Rattle.pairs.proofs.KeptLaws.{head_within, noted_passed, noted_new, noted-known, noted_risen}
 
 module _ (w : List ℕ) where
   -- the verdict of the record before row k
-  pub verdict-before : (k : ℕ) → (k ≡ 0 → ⊥) → get_or w (4 * k - 1) 0 ≡ (recordAt w (k - 1)).verdict
-  unfolding recordAt
-  verdict-before k some = ap (λ (j : ℕ). get_or w j 0) (omega arith)
+  pub verdict_before : (k : ℕ) → (k ≡ 0 → ⊥) → get_or w (4 * k - 1) 0 ≡ (record_at w (k - 1)).verdict
+  unfolding record_at
+  verdict_before k some = ap (λ (j : ℕ). get_or w j 0) (omega arith)
 
-  pub touched-before : (k : ℕ) (b : Bool) → (k ≡ 0 → ⊥) → b ≡ isTouched (classOf (get_or w (4 * k - 1) 0 % 256)) → b ≡ touchedAt w k
-  touched-before k b some e = e ∙ ap (λ (v : ℕ). isTouched (classOf (v % 256))) (verdict-before k some)
+  pub touched_before : (k : ℕ) (b : Bool) → (k ≡ 0 → ⊥) → b ≡ is_touched (class_of (get_or w (4 * k - 1) 0 % 256)) → b ≡ touched_at w k
+  touched_before k b some e = e ∙ ap (λ (v : ℕ). is_touched (class_of (v % 256))) (verdict_before k some)
 
   module _ (end : ℕ) (even : end % 4 ≡ 0) (some : 0 < end) (inside : end ≤ length w) (heads links : List ℕ) (s t : ℕ)
       (noted : Noted w (end / 4) heads links s t) where
@@ -35,14 +35,14 @@ module _ (w : List ℕ) where
     before : Noted w (row + 1) heads links s t
     before = subst (λ (k : ℕ). Noted w k heads links s t) next noted
 
-    pub passed : isScrubbed (classOf ((recordAt w row).verdict % 256)) ≡ false → Noted w row heads links s t
-    passed none = noted-passed w row whole heads links before.kept none s t before.scrubs before.touches
+    pub passed : is_scrubbed (class_of ((record_at w row).verdict % 256)) ≡ false → Noted w row heads links s t
+    passed none = noted_passed w row whole heads links before.kept none s t before.scrubs before.touches
 
     abbrev x : Pair
-    x = aPair (get_or w (end - 4) 0) (get_or w (end - 2) 0)
+    x = a_pair (get_or w (end - 4) 0) (get_or w (end - 2) 0)
 
-    pair_is : x ≡ pair_of (recordAt w row)
-    unfolding recordAt
+    pair_is : x ≡ pair_of (record_at w row)
+    unfolding record_at
     pair_is =
         let eo : end - 4 ≡ 4 * row = omega arith in
         let eb : end - 2 ≡ 4 * row + 2 = omega arith in
@@ -50,22 +50,22 @@ module _ (w : List ℕ) where
 
     module _ (slot : ℕ) (es : slot ≡ slot_of x) (k : ℕ) (seek : Seeks w links x (get_or heads slot 0) k) where
       pub inside_found : 4 * k ≤ length w
-      inside_found = seeks-within w x links noted.kept.rising (head-within w (end / 4) heads links noted.kept slot) seek
+      inside_found = seeks_within w x links noted.kept.rising (head_within w (end / 4) heads links noted.kept slot) seek
 
-      slot_is : slot ≡ slot_of (pair_of (recordAt w row))
+      slot_is : slot ≡ slot_of (pair_of (record_at w row))
       slot_is = es ∙ ap slot_of pair_is
 
-      seek_is : Seeks w links (pair_of (recordAt w row)) (get_or heads (slot_of (pair_of (recordAt w row))) 0) k
+      seek_is : Seeks w links (pair_of (record_at w row)) (get_or heads (slot_of (pair_of (record_at w row))) 0) k
       seek_is =
-          subst (λ (z : ℕ). Seeks w links (pair_of (recordAt w row)) (get_or heads z 0) k) slot_is
+          subst (λ (z : ℕ). Seeks w links (pair_of (record_at w row)) (get_or heads z 0) k) slot_is
           (subst (λ (y : Pair). Seeks w links y (get_or heads slot 0) k) pair_is seek)
 
-      module _ (scrub : isScrubbed (classOf ((recordAt w row).verdict % 256)) ≡ true) (p : Bool) (ep : p ≡ touchedAt w (end / 4)) where
+      module _ (scrub : is_scrubbed (class_of ((record_at w row).verdict % 256)) ≡ true) (p : Bool) (ep : p ≡ touched_at w (end / 4)) where
         -- the pair is touched already, or need not be
-        pub known : (k ≡ 0 → ⊥) → touchedAt w k ≡ true → Noted w row heads links s t
+        pub known : (k ≡ 0 → ⊥) → touched_at w k ≡ true → Noted w row heads links s t
         known found e =
             noted-known w row whole heads links before.kept scrub p ep k seek_is s t before.scrubs before.touches (omega arith)
-            (by-test p (λ f. cc) (λ f. cc))
+            (by_test p (λ f. cc) (λ f. cc))
 
         pub unneeded : (k ≡ 0 → ⊥) → p ≡ false → Noted w row heads links s t
         unneeded found e =
@@ -73,24 +73,24 @@ module _ (w : List ℕ) where
 
         -- or the record is put first
         module _ (low : slot < 64) (hs ls : List ℕ) (eh : hs ≡ set heads slot (end / 4)) (el : ls ≡ set links (end / 4 - 1) (get_or heads slot 0)) where
-          low-is : slot_of (pair_of (recordAt w row)) < 64
-          low-is = subst (λ (z : ℕ). z < 64) slot_is low
+          low_is : slot_of (pair_of (record_at w row)) < 64
+          low_is = subst (λ (z : ℕ). z < 64) slot_is low
 
           put : (a b : ℕ)
-              → Noted w row (set heads (slot_of (pair_of (recordAt w row))) (row + 1)) (set links row (get_or heads (slot_of (pair_of (recordAt w row))) 0)) a b
+              → Noted w row (set heads (slot_of (pair_of (record_at w row))) (row + 1)) (set links row (get_or heads (slot_of (pair_of (record_at w row))) 0)) a b
               → Noted w row hs ls a b
           put a b h =
-              let eh' : hs ≡ set heads (slot_of (pair_of (recordAt w row))) (row + 1)
-              = eh ∙ ap (λ (z : ℕ). set heads z (end / 4)) slot_is ∙ ap (set heads (slot_of (pair_of (recordAt w row)))) next in
-              let el' : ls ≡ set links row (get_or heads (slot_of (pair_of (recordAt w row))) 0) = el ∙ ap (λ (z : ℕ). set links row (get_or heads z 0)) slot_is in
+              let eh' : hs ≡ set heads (slot_of (pair_of (record_at w row))) (row + 1)
+              = eh ∙ ap (λ (z : ℕ). set heads z (end / 4)) slot_is ∙ ap (set heads (slot_of (pair_of (record_at w row)))) next in
+              let el' : ls ≡ set links row (get_or heads (slot_of (pair_of (record_at w row))) 0) = el ∙ ap (λ (z : ℕ). set links row (get_or heads z 0)) slot_is in
               rw (eh', el') h
 
           pub new : (n : ℕ) → k ≡ 0 → n ≡ cond p 1 0 → Noted w row hs ls (s + 1) (t + n)
           new n none en =
               put (s + 1) (t + n)
-              (rw en (noted-new w row whole heads links before.kept scrub p ep k seek_is s t before.scrubs before.touches none low-is))
+              (rw en (noted_new w row whole heads links before.kept scrub p ep k seek_is s t before.scrubs before.touches none low_is))
 
-          pub risen : (k ≡ 0 → ⊥) → p ≡ true → touchedAt w k ≡ false → Noted w row hs ls s (t + 1)
+          pub risen : (k ≡ 0 → ⊥) → p ≡ true → touched_at w k ≡ false → Noted w row hs ls s (t + 1)
           risen found e f =
               put s (t + 1)
-              (noted-risen w row whole heads links before.kept scrub p ep k seek_is s t before.scrubs before.touches (omega arith) e f low-is)
+              (noted_risen w row whole heads links before.kept scrub p ep k seek_is s t before.scrubs before.touches (omega arith) e f low_is)

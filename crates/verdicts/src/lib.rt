@@ -1,9 +1,9 @@
 // The verdict count. Document 01, "Verdict count"; document 02, T-05; the definitions are those of specs/Verdicts.antt.
 ghost use Rattle.std.specs.Prelude.{◌≡◌, true, cond, ◌-◌, ◌*◌, ◌/◌, ◌%◌, ◌<◌, ◌≤◌, length};
-ghost use Rattle.meaning.specs.Rows.{recordAt};
-ghost use Rattle.meaning.specs.Table.{form_of, formWords, nodesMost, logMost, held, sound};
-ghost use Rattle.meaning.specs.Verdicts.{classOf, isScrubbed, isTouched, verdictCount, nodeCount};
-ghost use Rattle.pairs.specs.Chains.{Noted, touchedAt};
+ghost use Rattle.meaning.specs.Rows.{record_at};
+ghost use Rattle.meaning.specs.Table.{form_of, form_words, nodes_most, log_most, held, sound};
+ghost use Rattle.meaning.specs.Verdicts.{class_of, is_scrubbed, is_touched, verdict_count, node_count};
+ghost use Rattle.pairs.specs.Chains.{Noted, touched_at};
 
 use layout::{LOG_WORDS, RECORD_WORDS};
 use meaning::{Class, Count};
@@ -12,7 +12,7 @@ use pairs::{find, put_first, slot_of};
 // "00–0F not read; 10–1F answered from page cache; 20–2F read from platter, good; 30–3F read from platter, bad;
 // 40–4F repaired and read back; 50–FF reserved"
 pub fn class_of(v: u8) -> Class
-    ensures { result ≡ classOf v }
+    ensures { result ≡ class_of v }
 {
     match v {
         0x00..=0x0f => Class::NotRead,
@@ -26,7 +26,7 @@ pub fn class_of(v: u8) -> Class
 
 // "Scrubbed" is 10–4F.
 fn is_scrubbed(c: Class) -> bool
-    ensures { result ≡ isScrubbed c }
+    ensures { result ≡ is_scrubbed c }
 {
     match c {
         Class::NotRead => false,
@@ -40,7 +40,7 @@ fn is_scrubbed(c: Class) -> bool
 
 // "touched" is 20–4F.
 fn is_touched(c: Class) -> bool
-    ensures { result ≡ isTouched c }
+    ensures { result ≡ is_touched c }
 {
     match c {
         Class::NotRead => false,
@@ -54,13 +54,13 @@ fn is_touched(c: Class) -> bool
 
 // Both tests of a verdict are functions of their own, so that the compiler makes one comparison of the class's many.
 fn scrubs(verdict: u8) -> bool
-    ensures { result ≡ isScrubbed (classOf verdict) }
+    ensures { result ≡ is_scrubbed (class_of verdict) }
 {
     is_scrubbed(class_of(verdict))
 }
 
 fn touches(verdict: u8) -> bool
-    ensures { result ≡ isTouched (classOf verdict) }
+    ensures { result ≡ is_touched (class_of verdict) }
 {
     is_touched(class_of(verdict))
 }
@@ -83,8 +83,8 @@ fn note(
 )
     requires end_value { (end % 4 ≡ 0) × (0 < end) × (end ≤ length words.now) }
     requires noted { Noted words.now (end / 4) heads.old links.old scrubbed.old touched.old }
-    requires end_value_2 { isScrubbed (classOf ((recordAt words.now (end / 4 - 1)).verdict % 256)) ≡ true }
-    requires platter_value { platter ≡ touchedAt words.now (end / 4) }
+    requires end_value_2 { is_scrubbed (class_of ((record_at words.now (end / 4 - 1)).verdict % 256)) ≡ true }
+    requires platter_value { platter ≡ touched_at words.now (end / 4) }
     ensures { Noted words.now (end / 4 - 1) heads.new links.new scrubbed.new touched.new }
 {
     let origin = words[end - 4];
@@ -119,7 +119,7 @@ fn count_row(
     scrubbed: &mut u32,
     touched: &mut u32,
 )
-    requires end_value { (end % 4 ≡ 0) × (0 < end) × (end ≤ length words.now) × (v ≡ (recordAt words.now (end / 4 - 1)).verdict % 256) }
+    requires end_value { (end % 4 ≡ 0) × (0 < end) × (end ≤ length words.now) × (v ≡ (record_at words.now (end / 4 - 1)).verdict % 256) }
     requires noted { Noted words.now (end / 4) heads.old links.old scrubbed.old touched.old }
     ensures { Noted words.now (end / 4 - 1) heads.new links.new scrubbed.new touched.new }
 {
@@ -140,8 +140,8 @@ fn count_row(
 // The count over whole records, in one pass from the last to the first. It has no early end: the verdicts' bits are gathered, and a verdict is
 // above 255 where what they make is.
 fn count_records(words: &[u32]) -> Count
-    requires { (length words.now % 4 ≡ 0) × (length words.now ≤ 4 * logMost) }
-    ensures { result ≡ verdictCount words.now }
+    requires { (length words.now % 4 ≡ 0) × (length words.now ≤ 4 * log_most) }
+    ensures { result ≡ verdict_count words.now }
 {
     let mut heads = [0u8; 64];
     let mut links = [0u8; 64];
@@ -176,7 +176,7 @@ fn count_records(words: &[u32]) -> Count
 
 // "Over a lent list of 0 to 64 records of four words (else, or with a verdict above 255, refusal 1 and zero counts)"
 pub fn count(words: &[u32]) -> Count
-    ensures { result ≡ verdictCount words.now }
+    ensures { result ≡ verdict_count words.now }
 {
     let len = words.len();
     if len % RECORD_WORDS != 0 {
@@ -190,9 +190,9 @@ pub fn count(words: &[u32]) -> Count
 
 // The count over the log of node p in a sound table.
 fn count_log(t: &[u32], p: usize) -> Count
-    requires t_len { (length t.now ≡ formWords (form_of t.now)) × (p < nodesMost) × (held t.now p ≤ logMost) }
+    requires t_len { (length t.now ≡ form_words (form_of t.now)) × (p < nodes_most) × (held t.now p ≤ log_most) }
     requires t_value { (sound t.now ≡ true) × (p < Rattle.meaning.specs.Table.count t.now) }
-    ensures { result ≡ nodeCount t.now p }
+    ensures { result ≡ node_count t.now p }
 {
     let held = layout::held_of(t, p) as usize;
     let from = layout::log_at(t, p);
@@ -202,7 +202,7 @@ fn count_log(t: &[u32], p: usize) -> Count
 
 // The count over a node's log inside a table: 1 for a table that is not sound, then 3 for a node out of range.
 pub fn count_node(t: &[u32], node: u8) -> Count
-    ensures { result ≡ nodeCount t.now node }
+    ensures { result ≡ node_count t.now node }
 {
     if !soundness::is_sound(t) {
         return Count::Refused { number: 1 };

@@ -3,7 +3,7 @@
 ghost use Rattle.std.specs.Prelude.{[], ◌∷◌, ◌++◌, ◌+◌, ◌*◌, ◌≤◌, length};
 ghost use Rattle.meaning.specs.Journals.{spaced};
 ghost use Rattle.printing.specs.Wrote.{Wrote};
-ghost use Rattle.wording.specs.WroteRow.{WroteRow, rowMost};
+ghost use Rattle.wording.specs.WroteRow.{WroteRow, row_most};
 
 // A row of numbers, each with a space before it.
 fn row(out: &mut [u8], at: usize, vs: &[u32]) -> usize
@@ -44,7 +44,7 @@ pub fn said_one(out: &mut [u8], at: usize, w: &[u8], v: usize) -> usize
 
 // A word and a row of numbers after it.
 pub fn said_row(out: &mut [u8], at: usize, w: &[u8], vs: &[u32]) -> usize
-    requires { at + rowMost w.now vs.now ≤ length out.old }
+    requires { at + row_most w.now vs.now ≤ length out.old }
     ensures { WroteRow out.old at w.now vs.now result out.new }
 {
     let next = word(out, at, w);

@@ -1,6 +1,6 @@
 // A line read in one call: its refusal and its place, and its kind and fields in lent words. Document 01, "Frames and journals".
 ghost use Rattle.std.specs.Prelude.{◌≡◌, [], ◌<◌, length};
-ghost use Rattle.meaning.specs.Frames.{wordsFault, ReadWords};
+ghost use Rattle.meaning.specs.Frames.{words_fault, ReadWords};
 ghost use Rattle.six.specs.Six.{Puts};
 
 use meaning::Fault;
@@ -36,7 +36,7 @@ fn put_sure(s: &[u8], words: &mut [u32]) -> bool
 
 // The refusal of a line for which fewer than six words are lent: the line's own, and then 17.
 fn few(s: &[u8]) -> Fault
-    ensures { result ≡ wordsFault s.now [] }
+    ensures { result ≡ words_fault s.now [] }
 {
     let fault = faults::refusal(s);
     if fault.number != 0 {

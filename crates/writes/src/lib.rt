@@ -1,7 +1,7 @@
 // Write: one record more at its node.
 ghost use Rattle.std.specs.Prelude.{◌≡◌, ◌<◌};
 ghost use Rattle.meaning.specs.declared.Action.TheVariants.{Write};
-ghost use Rattle.meaning.specs.Table.{logMost, count, held, node, putNode, Sound};
+ghost use Rattle.meaning.specs.Table.{log_most, count, held, node, put_node, Sound};
 ghost use Rattle.meaning.specs.Node.{wrote};
 ghost use Rattle.looks.specs.Applied.{Applied};
 
@@ -12,8 +12,8 @@ use rows::put_word;
 
 // "The record with origin p goes after the last held record of p; the summary entry of p for itself becomes t."
 fn append(t: &mut [u32], p: usize, held: usize, r: Record)
-    requires { Sound t.old × (p < count t.old) × (held ≡ Rattle.meaning.specs.Table.held t.old p) × (held < logMost) × (r.origin ≡ p) }
-    ensures { t.new ≡ putNode p (wrote p r.timestamp r.block r.verdict (node t.old p)) t.old }
+    requires { Sound t.old × (p < count t.old) × (held ≡ Rattle.meaning.specs.Table.held t.old p) × (held < log_most) × (r.origin ≡ p) }
+    ensures { t.new ≡ put_node p (wrote p r.timestamp r.block r.verdict (node t.old p)) t.old }
 {
     let row = layout::log_at(t, p) + 4 * held;
     let number = layout::held_at(t, p);

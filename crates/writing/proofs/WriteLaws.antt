@@ -7,5 +7,5 @@ use Rattle.meaning.specs.declared.Action.{Action}
 use Rattle.meaning.specs.Frames.{Wrote}
 
 -- the answer for an action, by the case that it is
-pub by-case : (out out' : List ℕ) (r : Framed) (x y : Action) → x ≡ y → Wrote out y r out' → Wrote out x r out'
-by-case out out' r x y e p = rw e p
+pub by_case : (out out' : List ℕ) (r : Framed) (x y : Action) → x ≡ y → Wrote out y r out' → Wrote out x r out'
+by_case out out' r x y e p = rw e p

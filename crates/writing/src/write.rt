@@ -1,7 +1,7 @@
 // The writers of each kind of frame, by its fields, as numbers, so that no step is built in memory and read back: what C calls.
 ghost use Rattle.std.specs.Prelude.{◌≡◌, true};
 ghost use Rattle.meaning.specs.declared.Action.TheVariants.{Write, Session, Purge, Deliver};
-ghost use Rattle.meaning.specs.Table.{countRight};
+ghost use Rattle.meaning.specs.Table.{count_right};
 ghost use Rattle.meaning.specs.Frames.{Wrote, Began};
 
 use frames::{put_session, put_short, put_write};
@@ -56,7 +56,7 @@ pub fn deliver(out: &mut [u8], node: u8) -> Framed
 
 // A start's frame into lent bytes, its n being 2 to 16: 17 where they are too few.
 pub(crate) fn start(out: &mut [u8], n: u8) -> Framed
-    requires { countRight n ≡ true }
+    requires { count_right n ≡ true }
     ensures { Began out.old n result out.new }
 {
     if out.len() < 7 {

@@ -9,7 +9,7 @@ use lib.ListN.{length}
 use lib.Dec.{ltb}
 use Rattle.meaning.specs.Rows.{due}
 use Rattle.meaning.specs.Table.{form_of, count, held, log_at, node, Sound}
-use Rattle.deliveries.proofs.LentLaws.{due-few}
+use Rattle.deliveries.proofs.LentLaws.{due_few}
 use borrow.Author.Rules.{rules}
 use Rattle.deliveries.proofs.lacks.Statement.{statement}
 use Rattle.deliveries.proofs.lacks.Tie as tie
@@ -18,11 +18,11 @@ roomy :
     (t : List ℕ) → Sound t → (p : ℕ) → p < count t → (k : ℕ) → k ≡ held t p → (mark limit room : ℕ) → 4 * k ≤ room →
     false ≡ ltb room (4 * length (due mark limit (node t p).log))
 roomy t s p h k ek mark limit room g =
-    let a = due-few t s p h (log_at (form_of t) p) k refl ek mark limit in
+    let a = due_few t s p h (log_at (form_of t) p) k refl ek mark limit in
     sym (le-ltb room (4 * length (due mark limit (node t p).log)) (omega arith))
 
-mul-if1 : tie.Need-overflow-mul-if1
-mul-if1 c = search rules
+mul_if1 : tie.Need-overflow-mul-if1
+mul_if1 c = search rules
 
 returns : tie.Need-returns
 returns c =
@@ -30,20 +30,20 @@ returns c =
     roomy start.args.t.now start.requires.0 start.args.p start.requires.1 start.args.held start.requires.2 start.args.mark
     start.args.limit start.args.room c.if1.true
 
-due-of-requires : tie.Need-due-of-requires
-due-of-requires c κs = search rules
+due_of_requires : tie.Need-due-of-requires
+due_of_requires c κs = search rules
 
-mul-result : tie.Need-overflow-mul-result
-mul-result c =
-    let few = c.due-of.ensures.1 in
+mul_result : tie.Need-overflow-mul-result
+mul_result c =
+    let few = c.due_of_lem.ensures.1 in
     let start = c.before.before.before in
     let most = start.requires.3 in
     omega arith
 
-returns-2 : tie.Need-returns-2
-returns-2 c =
+returns_2 : tie.Need-returns-2
+returns_2 c =
     let start = c.before.before.before in
-    ap (λ (m : ℕ). ltb start.args.room (4 * m)) c.due-of.ensures.0
+    ap (λ (m : ℕ). ltb start.args.room (4 * m)) c.due_of_lem.ensures.0
 
-pub lacks-spec : {M : Type 1} → statement M
-lacks-spec = tie.close (tie.spec mul-if1 returns due-of-requires mul-result returns-2)
+pub lacks_spec : {M : Type 1} → statement M
+lacks_spec = tie.close (tie.spec mul_if1 returns due_of_requires mul_result returns_2)

@@ -5,90 +5,90 @@ use Rattle.digits.proofs.DigitLaws.{
   seen_none,
   seen_more,
   seen_all,
-  seen-stray,
+  seen_stray,
   Sum,
   sum-none,
   sum_more,
   sum-all,
-  sum-stray,
-  sum-right,
+  sum_stray,
+  sum_right,
 }
 use Rattle.digits.proofs.total.Statement.{statement}
 use Rattle.digits.proofs.total.Tie as tie
 
-abbrev invariant-loop : tie.invariant-loop
-invariant-loop s seen₀ sum₀ k₀ seen sum k = (k ≤ length s) × (sum ≤ 255) × Seen s seen k × Sum s sum k
+abbrev invariant_loop : tie.invariant_loop
+invariant_loop s seen₀ sum₀ k₀ seen sum k = (k ≤ length s) × (sum ≤ 255) × Seen s seen k × Sum s sum k
 
-abbrev decreases-loop : tie.decreases-loop
-decreases-loop s seen₀ sum₀ k₀ seen sum k = length s - k
+abbrev decreases_loop : tie.decreases_loop
+decreases_loop s seen₀ sum₀ k₀ seen sum k = length s - k
 
-loop-holds : tie.Need-loop-init invariant-loop decreases-loop
-loop-holds c =
+loop_holds : tie.Need-loop-init invariant_loop decreases_loop
+loop_holds c =
     let s = c.before.args.s.now in
     (omega arith, omega arith, seen_none s, sum-none s)
 
-shared-slice-read-digit-value : tie.Need-shared-slice-read-digit-value invariant-loop decreases-loop
-shared-slice-read-digit-value c = search rules
+shared_slice_read_digit_value : tie.Need-shared-slice-read-digit-value invariant_loop decreases_loop
+shared_slice_read_digit_value c = search rules
 
-digit-value-requires : tie.Need-digit-value-requires invariant-loop decreases-loop
-digit-value-requires c κs = search rules
+digit_value_requires : tie.Need-digit-value-requires invariant_loop decreases_loop
+digit_value_requires c κs = search rules
 
-weighed-requires : tie.Need-weighed-requires invariant-loop decreases-loop
-weighed-requires c κs = search rules
+weighed_requires : tie.Need-weighed-requires invariant_loop decreases_loop
+weighed_requires c κs = search rules
 
-wrapping-add-u8-requires : tie.Need-wrapping-add-u8-requires invariant-loop decreases-loop
-wrapping-add-u8-requires c κs = search rules
+wrapping_add_u8_requires : tie.Need-wrapping-add-u8-requires invariant_loop decreases_loop
+wrapping_add_u8_requires c κs = search rules
 
-add-k : tie.Need-overflow-add-k invariant-loop decreases-loop
-add-k c = search rules
+add_k : tie.Need-overflow-add-k invariant_loop decreases_loop
+add_k c = search rules
 
-loop-less : tie.Need-loop-smaller invariant-loop decreases-loop
-loop-less c = omega arith
+loop_less : tie.Need-loop-smaller invariant_loop decreases_loop
+loop_less c = omega arith
 
-loop-again : tie.Need-loop-preserved invariant-loop decreases-loop
-loop-again c =
-    let at-digit = c.before.before in
-    let at-loop = at-digit.before.before.before in
-    let s = at-loop.before.before.args.s.now in
-    let loop = at-loop.loop in
-    let v = at-digit.digit_value in
+loop_again : tie.Need-loop-preserved invariant_loop decreases_loop
+loop_again c =
+    let at_digit = c.before.before in
+    let at_loop = at_digit.before.before.before in
+    let s = at_loop.before.before.args.s.now in
+    let loop = at_loop.loop in
+    let v = at_digit.digit_value in
     let w = c.before.weighed in
     let seen = seen_more s loop.seen loop.k v.result (omega arith) v.ensures loop.invariant.2 in
     let sum = sum_more s loop.k v.result w.result loop.sum (omega arith) v.ensures w.ensures loop.invariant.3 in
     (omega arith, omega (arith, c.wrapping-add-u8.ensures), seen, sum c.wrapping-add-u8.result c.wrapping-add-u8.ensures)
 
-returns : tie.Need-returns invariant-loop decreases-loop
+returns : tie.Need-returns invariant_loop decreases_loop
 returns c =
-    let at-loop = c.before.before in
-    let s = at-loop.before.before.args.s.now in
-    sum-stray s (seen-stray s at-loop.loop.seen at-loop.loop.k at-loop.loop.invariant.2 c.if1.true)
+    let at_loop = c.before.before in
+    let s = at_loop.before.before.args.s.now in
+    sum_stray s (seen_stray s at_loop.loop.seen at_loop.loop.k at_loop.loop.invariant.2 c.if1.true)
 
-cast-result : tie.Need-overflow-cast-result invariant-loop decreases-loop
-cast-result c = omega (arith, c.before.before.loop.invariant.1)
+cast_result : tie.Need-overflow-cast-result invariant_loop decreases_loop
+cast_result c = omega (arith, c.before.before.loop.invariant.1)
 
-returns-2 : tie.Need-returns-2 invariant-loop decreases-loop
-returns-2 c =
-    let at-loop = c.before.before in
-    let start = at-loop.before.before in
+returns_2 : tie.Need-returns-2 invariant_loop decreases_loop
+returns_2 c =
+    let at_loop = c.before.before in
+    let start = at_loop.before.before in
     let s = start.args.s.now in
-    let loop = at-loop.loop in
+    let loop = at_loop.loop in
     let all = seen_all s loop.seen loop.k (omega arith) loop.invariant.2 c.if1.false in
-    sum-right s loop.sum all (sum-all s loop.k loop.sum (omega arith) start.requires loop.invariant.3)
+    sum_right s loop.sum all (sum-all s loop.k loop.sum (omega arith) start.requires loop.invariant.3)
 
-pub total-spec : {M : Type 1} → statement M
-total-spec =
+pub total_spec : {M : Type 1} → statement M
+total_spec =
     tie.close
     (tie.spec
-    invariant-loop
-    decreases-loop
-    loop-holds
-    shared-slice-read-digit-value
-    digit-value-requires
-    weighed-requires
-    wrapping-add-u8-requires
-    add-k
-    loop-less
-    loop-again
+    invariant_loop
+    decreases_loop
+    loop_holds
+    shared_slice_read_digit_value
+    digit_value_requires
+    weighed_requires
+    wrapping_add_u8_requires
+    add_k
+    loop_less
+    loop_again
     returns
-    cast-result
-    returns-2)
+    cast_result
+    returns_2)

@@ -5,56 +5,56 @@ use borrow.Author.Rules.{rules}
 use Rattle.exchanges.proofs.both_sides.Statement.{statement}
 use Rattle.exchanges.proofs.both_sides.Tie as tie
 
-side-requires : tie.Need-side-requires
-side-requires c κs =
+side_requires : tie.Need-side-requires
+side_requires c κs =
     let start = c.before.before.before.before.before.before in
     let p = start.requires in
-    first p.meets start.args.held-a start.args.held-b p.hasA p.has_b start.args.to-a p.roomA start.args.columns p.told
+    first p.meets start.args.held-a start.args.held-b p.has_a p.has_b start.args.to-a p.room_a start.args.columns p.told
 
-side-requires-2 : tie.Need-side-requires-2
-side-requires-2 c κs =
-    let at_Side = c.before.before.before in
-    let start = at_Side.before.before.before.before.before.before.before in
+side_requires_2 : tie.Need-side-requires-2
+side_requires_2 c κs =
+    let at__side = c.before.before.before in
+    let start = at__side.before.before.before.before.before.before.before in
     let p = start.requires in
-    second p.meets start.args.held-a start.args.held-b p.hasA p.has_b start.args.to-a p.roomA at_Side.side.ensures
-    start.args.to-b p.roomB start.args.columns p.told
+    second p.meets start.args.held-a start.args.held-b p.has_a p.has_b start.args.to-a p.room_a at__side.side.ensures
+    start.args.to-b p.room_b start.args.columns p.told
 
-sub-came-a : tie.Need-overflow-sub-came-a
-sub-came-a c = search rules
+sub_came_a : tie.Need-overflow-sub-came-a
+sub_came_a c = search rules
 
-cast-came-a : tie.Need-overflow-cast-came-a
-cast-came-a c = search rules
+cast_came_a : tie.Need-overflow-cast-came-a
+cast_came_a c = search rules
 
-sub-came-b : tie.Need-overflow-sub-came-b
-sub-came-b c = search rules
+sub_came_b : tie.Need-overflow-sub-came-b
+sub_came_b c = search rules
 
-cast-came-b : tie.Need-overflow-cast-came-b
-cast-came-b c = search rules
+cast_came_b : tie.Need-overflow-cast-came-b
+cast_came_b c = search rules
 
 same_length : tie.Need-same-length
 same_length c =
-    let at-side2 = c.before.before in
-    let at_Side = at-side2.before.before.before.before in
-    at-side2.side2.auto.0 ∙ at_Side.side.auto.0
+    let at_side2 = c.before.before in
+    let at__side = at_side2.before.before.before.before in
+    at_side2.side2.auto.0 ∙ at__side.side.auto.0
 
 returns : tie.Need-returns
 returns c =
-    let at-side2 = c.before.before in
-    let at_Side = at-side2.before.before.before.before in
-    let start = at_Side.before.before.before.before.before.before.before in
+    let at_side2 = c.before.before in
+    let at__side = at_side2.before.before.before.before in
+    let start = at__side.before.before.before.before.before.before.before in
     let p = start.requires in
-    traded p.meets start.args.held-a start.args.held-b p.hasA p.has_b start.args.to-a p.roomA at_Side.side.ensures
-    start.args.to-b p.roomB at-side2.side2.ensures
+    traded p.meets start.args.held-a start.args.held-b p.has_a p.has_b start.args.to-a p.room_a at__side.side.ensures
+    start.args.to-b p.room_b at_side2.side2.ensures
 
-pub both-sides-spec : {M : Type 1} → statement M
-both-sides-spec =
+pub both_sides_spec : {M : Type 1} → statement M
+both_sides_spec =
     tie.close
     (tie.spec
-    side-requires
-    side-requires-2
-    sub-came-a
-    cast-came-a
-    sub-came-b
-    cast-came-b
+    side_requires
+    side_requires_2
+    sub_came_a
+    cast_came_a
+    sub_came_b
+    cast_came_b
     same_length
     returns)

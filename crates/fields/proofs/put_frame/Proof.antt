@@ -4,34 +4,34 @@ use Rattle.fields.proofs.FieldLaws.{line_of}
 use Rattle.fields.proofs.put_frame.Statement.{statement}
 use Rattle.fields.proofs.put_frame.Tie as tie
 
-slice-aggregate-spell : tie.Need-slice-aggregate-spell
-slice-aggregate-spell c = search rules
+slice_aggregate_spell : tie.Need-slice-aggregate-spell
+slice_aggregate_spell c = search rules
 
-spell-requires : tie.Need-spell-requires
-spell-requires c κs = search rules
+spell_requires : tie.Need-spell-requires
+spell_requires c κs = search rules
 
-slice-aggregate-put-line : tie.Need-slice-aggregate-put-line
-slice-aggregate-put-line c = search rules
+slice_aggregate_put_line : tie.Need-slice-aggregate-put-line
+slice_aggregate_put_line c = search rules
 
-mul-put-line : tie.Need-overflow-mul-put-line
-mul-put-line c = search rules
+mul_put_line : tie.Need-overflow-mul-put-line
+mul_put_line c = search rules
 
-put-line-requires : tie.Need-put-line-requires
-put-line-requires c κs = search rules
+put_line_requires : tie.Need-put-line-requires
+put_line_requires c κs = search rules
 
 same_length : tie.Need-same-length
 same_length c = search rules
 
 returns : tie.Need-returns
 returns c =
-    let at-line = c.before.before in
-    let at-spell = at-line.before.before.before.before in
-    let start = at-spell.before.before.before.before in
+    let at_line = c.before.before in
+    let at_spell = at_line.before.before.before.before in
+    let start = at_spell.before.before.before.before in
     let n = start.args.n in
-    line_of start.args.out.now at-line.put-line.new.0 start.args.b.now at-spell.spell.new.1.0 n (2 * n) refl (omega arith)
-    at-spell.spell.ensures at-line.put-line.ensures
+    line_of start.args.out.now at_line.put-line.new.0 start.args.b.now at_spell.spell.new.1.0 n (2 * n) refl (omega arith)
+    at_spell.spell.ensures at_line.put-line.ensures
 
-pub put-frame-spec : {M : Type 1} → statement M
-put-frame-spec =
+pub put_frame_spec : {M : Type 1} → statement M
+put_frame_spec =
     tie.close
-    (tie.spec slice-aggregate-spell spell-requires slice-aggregate-put-line mul-put-line put-line-requires same_length returns)
+    (tie.spec slice_aggregate_spell spell_requires slice_aggregate_put_line mul_put_line put_line_requires same_length returns)

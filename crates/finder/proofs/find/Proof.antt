@@ -3,68 +3,68 @@ use mathlib.Core.Path.{◌≡◌, refl, ap, ◌∙◌}
 use Prim.Native.Nat.{◌+◌, ◌-◌, ◌≤◌, ◌<◌}
 use native.Mathlib.Omega.{arith}
 use lib.ListN.{length, drop}
-use Rattle.meaning.specs.Journals.{untilLF, hasLF}
-use Rattle.meaning.proofs.JournalLaws.{has_here, has-past, has-none, until-here, until-past}
-use Rattle.finder.proofs.Finding.{found-over, found-unended, found-line}
+use Rattle.meaning.specs.Journals.{until_lf, has_lf}
+use Rattle.meaning.proofs.JournalLaws.{has_here, has_past, has-none, until_here, until_past}
+use Rattle.finder.proofs.Finding.{found_over, found_unended, found_line}
 use Rattle.finder.proofs.find.Statement.{statement}
 use Rattle.finder.proofs.find.Tie as tie
 
-abbrev invariant-loop : tie.invariant-loop
-invariant-loop s at i₀ i =
-    (at ≤ i) × (i ≤ length s) × (hasLF (drop at s) ≡ hasLF (drop i s)) × (at + length (untilLF (drop at s)) ≡ i + length (untilLF (drop i s)))
+abbrev invariant_loop : tie.invariant_loop
+invariant_loop s at i₀ i =
+    (at ≤ i) × (i ≤ length s) × (has_lf (drop at s) ≡ has_lf (drop i s)) × (at + length (until_lf (drop at s)) ≡ i + length (until_lf (drop i s)))
 
-abbrev decreases-loop : tie.decreases-loop
-decreases-loop s at i₀ i = length s - i
+abbrev decreases_loop : tie.decreases_loop
+decreases_loop s at i₀ i = length s - i
 
-returns : tie.Need-returns invariant-loop decreases-loop
-returns c = found-over c.before.args.s.now c.before.args.at c.if1.true
+returns : tie.Need-returns invariant_loop decreases_loop
+returns c = found_over c.before.args.s.now c.before.args.at c.if1.true
 
-loop-holds : tie.Need-loop-init invariant-loop decreases-loop
-loop-holds c = (omega arith, omega arith, refl, refl)
+loop_holds : tie.Need-loop-init invariant_loop decreases_loop
+loop_holds c = (omega arith, omega arith, refl, refl)
 
-shared-slice-read-if2 : tie.Need-shared-slice-read-if2 invariant-loop decreases-loop
-shared-slice-read-if2 c = omega arith
+shared_slice_read_if2 : tie.Need-shared-slice-read-if2 invariant_loop decreases_loop
+shared_slice_read_if2 c = omega arith
 
-returns-2 : tie.Need-returns-2 invariant-loop decreases-loop
-returns-2 c =
+returns_2 : tie.Need-returns-2 invariant_loop decreases_loop
+returns_2 c =
     let s = c.before.before.before.before.before in
     let l = c.before.before.before.loop in
     let t = s.args.s.now in
     let h : l.i < length t = omega arith in
-    let none = ap length (until-here t l.i h c.if2.true) in
-    found-line t s.args.at l.i (omega arith) (l.invariant.2 ∙ has_here t l.i h c.if2.true) (omega arith)
+    let none = ap length (until_here t l.i h c.if2.true) in
+    found_line t s.args.at l.i (omega arith) (l.invariant.2 ∙ has_here t l.i h c.if2.true) (omega arith)
 
-add-i : tie.Need-overflow-add-i invariant-loop decreases-loop
-add-i c = omega arith
+add_i : tie.Need-overflow-add-i invariant_loop decreases_loop
+add_i c = omega arith
 
-loop-less : tie.Need-loop-smaller invariant-loop decreases-loop
-loop-less c = omega arith
+loop_less : tie.Need-loop-smaller invariant_loop decreases_loop
+loop_less c = omega arith
 
-loop-again : tie.Need-loop-preserved invariant-loop decreases-loop
-loop-again c =
+loop_again : tie.Need-loop-preserved invariant_loop decreases_loop
+loop_again c =
     let s = c.before.before.before.before.before in
     let l = c.before.before.before.loop in
     let t = s.args.s.now in
     let h : l.i < length t = omega arith in
-    (omega arith, omega arith, l.invariant.2 ∙ has-past t l.i h c.if2.false, omega (arith, until-past t l.i h c.if2.false))
+    (omega arith, omega arith, l.invariant.2 ∙ has_past t l.i h c.if2.false, omega (arith, until_past t l.i h c.if2.false))
 
-returns-3 : tie.Need-returns-3 invariant-loop decreases-loop
-returns-3 c =
+returns_3 : tie.Need-returns-3 invariant_loop decreases_loop
+returns_3 c =
     let s = c.before.before.before in
     let l = c.before.loop in
-    found-unended s.args.s.now s.args.at (omega arith) (l.invariant.2 ∙ has-none s.args.s.now l.i (omega arith))
+    found_unended s.args.s.now s.args.at (omega arith) (l.invariant.2 ∙ has-none s.args.s.now l.i (omega arith))
 
 pub find_spec : {M : Type 1} → statement M
 find_spec =
     tie.close
     (tie.spec
-    invariant-loop
-    decreases-loop
+    invariant_loop
+    decreases_loop
     returns
-    loop-holds
-    shared-slice-read-if2
-    returns-2
-    add-i
-    loop-less
-    loop-again
-    returns-3)
+    loop_holds
+    shared_slice_read_if2
+    returns_2
+    add_i
+    loop_less
+    loop_again
+    returns_3)

@@ -2,37 +2,37 @@
 use mathlib.Core.Path.{refl, sym, ◌∙◌, ap}
 use Prim.Native.Nat.{◌-◌, ◌%◌}
 use lib.Dec.{eqb}
-use Rattle.heads.proofs.CheckLaws.{check-high, check-low}
+use Rattle.heads.proofs.CheckLaws.{check_high, check_low}
 use borrow.Author.Rules.{rules}
 use Rattle.heads.proofs.is_check.Statement.{statement}
 use Rattle.heads.proofs.is_check.Tie as tie
 
-sub-last : tie.Need-overflow-sub-last
-sub-last c = search rules
+sub_last : tie.Need-overflow-sub-last
+sub_last c = search rules
 
-digit-of-requires : tie.Need-digit-of-requires
-digit-of-requires c κs = search rules
+digit_of_requires : tie.Need-digit-of-requires
+digit_of_requires c κs = search rules
 
 returns : tie.Need-returns
 returns c =
-    let at-digit = c.before in
-    let start = at-digit.before in
+    let at_digit = c.before in
+    let start = at_digit.before in
     let sum = start.args.sum in
-    check-high sum start.args.high start.args.low ((512 - sum) % 256) start.requires refl (λ e. c.if1.true (e ∙ sym at-digit.digit-of.ensures))
+    check_high sum start.args.high start.args.low ((512 - sum) % 256) start.requires refl (λ e. c.if1.true (e ∙ sym at_digit.digit-of.ensures))
 
-digit-of-requires-2 : tie.Need-digit-of-requires-2
-digit-of-requires-2 c κs = search rules
+digit_of_requires_2 : tie.Need-digit-of-requires-2
+digit_of_requires_2 c κs = search rules
 
-returns-2 : tie.Need-returns-2
-returns-2 c =
-    let at-else = c.before in
-    let at-digit = at-else.before in
-    let start = at-digit.before in
+returns_2 : tie.Need-returns-2
+returns_2 c =
+    let at_else = c.before in
+    let at_digit = at_else.before in
+    let start = at_digit.before in
     let sum = start.args.sum in
     let low = start.args.low in
-    let high_is = at-else.if1.false ∙ at-digit.digit-of.ensures in
-    ap (eqb low) c.digit-of2.ensures ∙ check-low sum start.args.high low ((512 - sum) % 256) start.requires refl high_is
+    let high_is = at_else.if1.false ∙ at_digit.digit-of.ensures in
+    ap (eqb low) c.digit-of2.ensures ∙ check_low sum start.args.high low ((512 - sum) % 256) start.requires refl high_is
 
-pub is-check-spec : {M : Type 1} → statement M
-is-check-spec =
-    tie.close (tie.spec sub-last digit-of-requires returns digit-of-requires-2 returns-2)
+pub is_check_spec : {M : Type 1} → statement M
+is_check_spec =
+    tie.close (tie.spec sub_last digit_of_requires returns digit_of_requires_2 returns_2)

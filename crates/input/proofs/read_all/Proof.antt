@@ -8,68 +8,68 @@ use Rattle.input.specs.Reading.{Within}
 use Rattle.input.proofs.read_all.Statement.{statement}
 use Rattle.input.proofs.read_all.Tie as tie
 
-abbrev invariant-loop : tie.invariant-loop
-invariant-loop fd bytes₀ input₀ turns₀ bytes input turns = (length bytes ≡ length bytes₀) × Within (length bytes₀) input
+abbrev invariant_loop : tie.invariant_loop
+invariant_loop fd bytes₀ input₀ turns₀ bytes input turns = (length bytes ≡ length bytes₀) × Within (length bytes₀) input
 
-abbrev decreases-loop : tie.decreases-loop
-decreases-loop fd bytes₀ input₀ turns₀ bytes input turns = turns
+abbrev decreases_loop : tie.decreases_loop
+decreases_loop fd bytes₀ input₀ turns₀ bytes input turns = turns
 
-returns : tie.Need-returns invariant-loop decreases-loop
+returns : tie.Need-returns invariant_loop decreases_loop
 returns c = search rules
 
-loop-holds : tie.Need-loop-init invariant-loop decreases-loop
-loop-holds c = (refl, omega arith)
+loop_holds : tie.Need-loop-init invariant_loop decreases_loop
+loop_holds c = (refl, omega arith)
 
-enum-known-input : tie.Need-enum-known-input invariant-loop decreases-loop
-enum-known-input c = search rules
+enum_known_input : tie.Need-enum-known-input invariant_loop decreases_loop
+enum_known_input c = search rules
 
-same_length : tie.Need-same-length invariant-loop decreases-loop
+same_length : tie.Need-same-length invariant_loop decreases_loop
 same_length c = search rules
 
-returns-2 : tie.Need-returns-2 invariant-loop decreases-loop
-returns-2 c = search rules
+returns_2 : tie.Need-returns-2 invariant_loop decreases_loop
+returns_2 c = search rules
 
-read-on-requires : tie.Need-read-on-requires invariant-loop decreases-loop
-read-on-requires c κs =
-    let at-input = c.before.before in
-    let at-loop = at-input.before.before.before in
-    let inv = at-loop.loop.invariant in
-    rw inv.0 (subst (Within _) at-input.input.given.1 inv.1)
+read_on_requires : tie.Need-read-on-requires invariant_loop decreases_loop
+read_on_requires c κs =
+    let at_input = c.before.before in
+    let at_loop = at_input.before.before.before in
+    let inv = at_loop.loop.invariant in
+    rw inv.0 (subst (Within _) at_input.input.given.1 inv.1)
 
-sub-turns : tie.Need-overflow-sub-turns invariant-loop decreases-loop
-sub-turns c = omega arith
+sub_turns : tie.Need-overflow-sub-turns invariant_loop decreases_loop
+sub_turns c = omega arith
 
-loop-less : tie.Need-loop-smaller invariant-loop decreases-loop
-loop-less c = omega arith
+loop_less : tie.Need-loop-smaller invariant_loop decreases_loop
+loop_less c = omega arith
 
-loop-again : tie.Need-loop-preserved invariant-loop decreases-loop
-loop-again c =
+loop_again : tie.Need-loop-preserved invariant_loop decreases_loop
+loop_again c =
     let at_read = c.before.before in
-    let at-loop = at_read.before.before.before.before.before.before in
+    let at_loop = at_read.before.before.before.before.before.before in
     let r = at_read.read-on.ensures in
-    let inv = at-loop.loop.invariant in
+    let inv = at_loop.loop.invariant in
     (r.0 ∙ inv.0, subst (λ (n : ℕ). Within n at_read.read-on.result) inv.0 r.1.1)
 
-same-length-2 : tie.Need-same-length-2 invariant-loop decreases-loop
-same-length-2 c = search rules
+same_length_2 : tie.Need-same-length-2 invariant_loop decreases_loop
+same_length_2 c = search rules
 
-returns-3 : tie.Need-returns-3 invariant-loop decreases-loop
-returns-3 c = search rules
+returns_3 : tie.Need-returns-3 invariant_loop decreases_loop
+returns_3 c = search rules
 
-pub read-all-spec : {M : Type 1} → statement M
-read-all-spec =
+pub read_all_spec : {M : Type 1} → statement M
+read_all_spec =
     tie.close
     (tie.spec
-    invariant-loop
-    decreases-loop
+    invariant_loop
+    decreases_loop
     returns
-    loop-holds
-    enum-known-input
+    loop_holds
+    enum_known_input
     same_length
-    returns-2
-    read-on-requires
-    sub-turns
-    loop-less
-    loop-again
-    same-length-2
-    returns-3)
+    returns_2
+    read_on_requires
+    sub_turns
+    loop_less
+    loop_again
+    same_length_2
+    returns_3)

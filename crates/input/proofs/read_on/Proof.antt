@@ -6,27 +6,27 @@ use borrow.Author.Rules.{rules}
 use borrow.Rule.Slice.PartMut.{take_put}
 use lib.ListN.{length}
 use Rattle.input.specs.Reading.{Within}
-use Rattle.input.proofs.ReadingLaws.{to-within}
+use Rattle.input.proofs.ReadingLaws.{to_within}
 use Rattle.input.proofs.read_on.Statement.{statement}
 use Rattle.input.proofs.read_on.Tie as tie
 
 sub_read : tie.Need-overflow-sub-read
 sub_read c = search rules
 
-part-read-start : tie.Need-slice-bounds-read-start
-part-read-start c = search rules
+part_read_start : tie.Need-slice-bounds-read-start
+part_read_start c = search rules
 
-part-read-end : tie.Need-slice-bounds-read-end
-part-read-end c = search rules
+part_read_end : tie.Need-slice-bounds-read-end
+part_read_end c = search rules
 
-read-requires : tie.Need-read-requires
-read-requires c κs = search rules
+read_requires : tie.Need-read-requires
+read_requires c κs = search rules
 
-errno-requires : tie.Need-errno-requires
-errno-requires c κs = search rules
+errno_requires : tie.Need-errno-requires
+errno_requires c κs = search rules
 
-read-to-requires : tie.Need-read-to-requires
-read-to-requires c κs = search rules
+read_to_requires : tie.Need-read-to-requires
+read_to_requires c κs = search rules
 
 same_length : tie.Need-same-length
 same_length c = search rules
@@ -37,18 +37,18 @@ returns c =
     let s = at_read.before.before.before in
     let xs = s.args.bytes.now in
     let kept = take_put s.args.at (length xs - s.args.at) xs at_read.read.new.1.0 (omega arith) in
-    let within = subst (Within (length xs)) (sym c.read-to.ensures) (to-within (length xs) s.args.at _ _ s.requires) in
+    let within = subst (Within (length xs)) (sym c.read-to.ensures) (to_within (length xs) s.args.at _ _ s.requires) in
     (search rules, (kept, within))
 
-pub read-on-spec : {M : Type 1} → statement M
-read-on-spec =
+pub read_on_spec : {M : Type 1} → statement M
+read_on_spec =
     tie.close
     (tie.spec
     sub_read
-    part-read-start
-    part-read-end
-    read-requires
-    errno-requires
-    read-to-requires
+    part_read_start
+    part_read_end
+    read_requires
+    errno_requires
+    read_to_requires
     same_length
     returns)

@@ -5,12 +5,12 @@ use Rattle.meaning.specs.Table.{count}
 use Rattle.layout.proofs.count_of.Statement.{statement}
 use Rattle.layout.proofs.count_of.Tie as tie
 
-shared-slice-read-result : tie.Need-shared-slice-read-result
-shared-slice-read-result c = search rules
+shared_slice_read_result : tie.Need-shared-slice-read-result
+shared_slice_read_result c = search rules
 
 returns : tie.Need-returns
 unfolding count
 returns c = refl
 
-pub count-of-spec : {M : Type 1} → statement M
-count-of-spec = tie.close (tie.spec shared-slice-read-result returns)
+pub count_of_spec : {M : Type 1} → statement M
+count_of_spec = tie.close (tie.spec shared_slice_read_result returns)

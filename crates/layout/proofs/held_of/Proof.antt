@@ -6,21 +6,21 @@ use Rattle.meaning.specs.Table.{held}
 use Rattle.layout.proofs.held_of.Statement.{statement}
 use Rattle.layout.proofs.held_of.Tie as tie
 
-held-at-requires : tie.Need-held-at-requires
-held-at-requires c κs = search rules
+held_at_requires : tie.Need-held-at-requires
+held_at_requires c κs = search rules
 
-mul-result : tie.Need-overflow-mul-result
-mul-result c = search rules
+mul_result : tie.Need-overflow-mul-result
+mul_result c = search rules
 
-shared-slice-read-result : tie.Need-shared-slice-read-result
-shared-slice-read-result c = search rules
+shared_slice_read_result : tie.Need-shared-slice-read-result
+shared_slice_read_result c = search rules
 
 returns : tie.Need-returns
 unfolding held
 returns c =
-    let at-held-at = c.before in
-    let start = at-held-at.before.before in
-    ap (λ i. get_or start.args.t.now i 0) at-held-at.held_at.ensures
+    let at_held_at = c.before in
+    let start = at_held_at.before.before in
+    ap (λ i. get_or start.args.t.now i 0) at_held_at.held_at.ensures
 
-pub held-of-spec : {M : Type 1} → statement M
-held-of-spec = tie.close (tie.spec held-at-requires mul-result shared-slice-read-result returns)
+pub held_of_spec : {M : Type 1} → statement M
+held_of_spec = tie.close (tie.spec held_at_requires mul_result shared_slice_read_result returns)

@@ -5,92 +5,92 @@ use mathlib.Core.List.{List}
 use Prim.Native.Nat.{ℕ, ◌+◌, ◌-◌, ◌≤◌, ◌<◌}
 use native.Mathlib.Omega.{arith}
 use Rattle.meaning.specs.declared.Record.{Record}
-use Rattle.meaning.specs.Rows.{recordAt, records}
+use Rattle.meaning.specs.Rows.{record_at, records}
 use Rattle.logs.specs.Carry.{goes, stay, FirstLeaving}
-use Rattle.logs.proofs.MoveLaws.{stay_none, stay-next}
-use Rattle.logs.proofs.BarLaws.{barred-at}
+use Rattle.logs.proofs.MoveLaws.{stay_none, stay_next}
+use Rattle.logs.proofs.BarLaws.{barred_at}
 use borrow.Author.Rules.{rules}
 use Rattle.logs.proofs.first_leaving.Statement.{statement}
 use Rattle.logs.proofs.first_leaving.Tie as tie
 
-module _ (leaves : Record → Bool) (i : ℕ) (w : List ℕ) (r : Record) (e : r ≡ recordAt w i) (before : stay leaves (records i w) ≡ records i w) where
+module _ (leaves : Record → Bool) (i : ℕ) (w : List ℕ) (r : Record) (e : r ≡ record_at w i) (before : stay leaves (records i w) ≡ records i w) where
   found : (held : ℕ) → i < held → true ≡ leaves r → FirstLeaving leaves held w i
   found held b h = record { within = omega arith; before = before; first = λ _. ap leaves (sym e) ∙ sym h }
 
   next : false ≡ leaves r → stay leaves (records (i + 1) w) ≡ records (i + 1) w
-  next h = stay-next leaves i w before (ap leaves (sym e) ∙ sym h)
+  next h = stay_next leaves i w before (ap leaves (sym e) ∙ sym h)
 
-abbrev invariant-loop : tie.invariant-loop
-invariant-loop log held barred bars limit row₀ row = (row ≤ held) × (stay (goes barred bars limit) (records row log) ≡ records row log)
+abbrev invariant_loop : tie.invariant_loop
+invariant_loop log held barred bars limit row₀ row = (row ≤ held) × (stay (goes barred bars limit) (records row log) ≡ records row log)
 
-abbrev decreases-loop : tie.decreases-loop
-decreases-loop log held barred bars limit row₀ row = held - row
+abbrev decreases_loop : tie.decreases_loop
+decreases_loop log held barred bars limit row₀ row = held - row
 
-loop-holds : tie.Need-loop-init invariant-loop decreases-loop
-loop-holds c =
+loop_holds : tie.Need-loop-init invariant_loop decreases_loop
+loop_holds c =
     let start = c.before.before in
     let test = goes start.args.barred start.args.bars.now start.args.limit in (search rules, stay_none test start.args.log.now)
 
-record-at-requires : tie.Need-record-at-requires invariant-loop decreases-loop
-record-at-requires c κs = search rules
+record_at_requires : tie.Need-record-at-requires invariant_loop decreases_loop
+record_at_requires c κs = search rules
 
-leaves-requires : tie.Need-leaves-requires invariant-loop decreases-loop
-leaves-requires c κs =
-    let at-loop = c.before.before in
-    let start = at-loop.before.before.before in
+leaves_requires : tie.Need-leaves-requires invariant_loop decreases_loop
+leaves_requires c κs =
+    let at_loop = c.before.before in
+    let start = at_loop.before.before.before in
     rw c.record-at.ensures
-    (barred-at start.args.barred start.args.bars.now start.args.held start.args.log.now start.requires.1 at-loop.loop.row (omega arith))
+    (barred_at start.args.barred start.args.bars.now start.args.held start.args.log.now start.requires.1 at_loop.loop.row (omega arith))
 
-returns : tie.Need-returns invariant-loop decreases-loop
+returns : tie.Need-returns invariant_loop decreases_loop
 returns c =
-    let at-leaves = c.before in
-    let at-record-at = at-leaves.before in
-    let at-loop = at-record-at.before.before in
-    let start = at-loop.before.before.before in
+    let at_leaves = c.before in
+    let at_record_at = at_leaves.before in
+    let at_loop = at_record_at.before.before in
+    let start = at_loop.before.before.before in
     let test = goes start.args.barred start.args.bars.now start.args.limit in
-    found test at-loop.loop.row start.args.log.now at-record-at.record-at.result
-    at-record-at.record-at.ensures at-loop.loop.invariant.1 start.args.held (omega arith) (sym c.if1.true ∙ at-leaves.leaves.ensures)
+    found test at_loop.loop.row start.args.log.now at_record_at.record-at.result
+    at_record_at.record-at.ensures at_loop.loop.invariant.1 start.args.held (omega arith) (sym c.if1.true ∙ at_leaves.leaves.ensures)
 
-add_row : tie.Need-overflow-add-row invariant-loop decreases-loop
+add_row : tie.Need-overflow-add-row invariant_loop decreases_loop
 add_row c = search rules
 
-loop-less : tie.Need-loop-smaller invariant-loop decreases-loop
-loop-less c = search rules
+loop_less : tie.Need-loop-smaller invariant_loop decreases_loop
+loop_less c = search rules
 
-loop-again : tie.Need-loop-preserved invariant-loop decreases-loop
-loop-again c =
-    let at-leaves = c.before in
-    let at-record-at = at-leaves.before in
-    let at-loop = at-record-at.before.before in
-    let start = at-loop.before.before.before in
+loop_again : tie.Need-loop-preserved invariant_loop decreases_loop
+loop_again c =
+    let at_leaves = c.before in
+    let at_record_at = at_leaves.before in
+    let at_loop = at_record_at.before.before in
+    let start = at_loop.before.before.before in
     let test = goes start.args.barred start.args.bars.now start.args.limit in (
       omega arith,
-      next test at-loop.loop.row start.args.log.now at-record-at.record-at.result
-          at-record-at.record-at.ensures at-loop.loop.invariant.1 (sym c.if1.false ∙ at-leaves.leaves.ensures),
+      next test at_loop.loop.row start.args.log.now at_record_at.record-at.result
+          at_record_at.record-at.ensures at_loop.loop.invariant.1 (sym c.if1.false ∙ at_leaves.leaves.ensures),
     )
 
-returns-2 : tie.Need-returns-2 invariant-loop decreases-loop
-returns-2 c =
-    let at-loop = c.before in
-    let start = at-loop.before.before.before in
-    let e : at-loop.loop.row ≡ start.args.held = omega arith in
+returns_2 : tie.Need-returns-2 invariant_loop decreases_loop
+returns_2 c =
+    let at_loop = c.before in
+    let start = at_loop.before.before.before in
+    let e : at_loop.loop.row ≡ start.args.held = omega arith in
     record {
       within = omega arith;
-      before = rw e at at-loop.loop.invariant.1;
+      before = rw e at at_loop.loop.invariant.1;
       first = λ h. absurd (omega arith);
     }
 
-pub first-leaving-spec : {M : Type 1} → statement M
-first-leaving-spec =
+pub first-leaving_spec : {M : Type 1} → statement M
+first-leaving_spec =
     tie.close
     (tie.spec
-    invariant-loop
-    decreases-loop
-    loop-holds
-    record-at-requires
-    leaves-requires
+    invariant_loop
+    decreases_loop
+    loop_holds
+    record_at_requires
+    leaves_requires
     returns
     add_row
-    loop-less
-    loop-again
-    returns-2)
+    loop_less
+    loop_again
+    returns_2)

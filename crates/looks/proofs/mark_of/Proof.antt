@@ -3,29 +3,29 @@ use mathlib.Core.Path.{◌≡◌, ap}
 use Prim.Native.Nat.{ℕ}
 use mathlib.Core.List.{List}
 use lib.ListN.{get_or}
-use Rattle.meaning.specs.Table.{form_of, markAt, mark}
+use Rattle.meaning.specs.Table.{form_of, mark_at, mark}
 use borrow.Author.Rules.{rules}
 use Rattle.looks.proofs.mark_of.Statement.{statement}
 use Rattle.looks.proofs.mark_of.Tie as tie
 
-word : (t : List ℕ) (p at : ℕ) → at ≡ markAt (form_of t) p → get_or t at 0 ≡ mark t p
+word : (t : List ℕ) (p at : ℕ) → at ≡ mark_at (form_of t) p → get_or t at 0 ≡ mark t p
 unfolding mark
 word t p at e = ap (λ (i : ℕ). get_or t i 0) e
 
-mark-at-requires : tie.Need-mark-at-requires
-mark-at-requires c κs = search rules
+mark_at_requires : tie.Need-mark-at-requires
+mark_at_requires c κs = search rules
 
-mul-result : tie.Need-overflow-mul-result
-mul-result c = search rules
+mul_result : tie.Need-overflow-mul-result
+mul_result c = search rules
 
-shared-slice-read-result : tie.Need-shared-slice-read-result
-shared-slice-read-result c = search rules
+shared_slice_read_result : tie.Need-shared-slice-read-result
+shared_slice_read_result c = search rules
 
 returns : tie.Need-returns
 returns c =
-    let at-mark-at = c.before in
-    let start = at-mark-at.before.before in
-    word start.args.t.now start.args.p at-mark-at.mark-at.result at-mark-at.mark-at.ensures
+    let at_mark_at = c.before in
+    let start = at_mark_at.before.before in
+    word start.args.t.now start.args.p at_mark_at.mark-at.result at_mark_at.mark-at.ensures
 
-pub mark-of-spec : {M : Type 1} → statement M
-mark-of-spec = tie.close (tie.spec mark-at-requires mul-result shared-slice-read-result returns)
+pub mark_of_spec : {M : Type 1} → statement M
+mark_of_spec = tie.close (tie.spec mark_at_requires mul_result shared_slice_read_result returns)

@@ -4,28 +4,28 @@ use mathlib.Core.List.{List}
 use Prim.Native.Nat.{ℕ, ◌+◌, ◌*◌}
 use native.Mathlib.Omega.{arith}
 use lib.ListN.{get_or}
-use Rattle.numbers.specs.Numbers.{joinedAt}
+use Rattle.numbers.specs.Numbers.{joined_at}
 use borrow.Author.Rules.{rules}
 use Rattle.numbers.proofs.word_of.Statement.{statement}
 use Rattle.numbers.proofs.word_of.Tie as tie
 
-half-of-requires : tie.Need-half-of-requires
-half-of-requires c κs = search rules
+half_of_requires : tie.Need-half-of-requires
+half_of_requires c κs = search rules
 
-mul-result : tie.Need-overflow-mul-result
-mul-result c = search rules
+mul_result : tie.Need-overflow-mul-result
+mul_result c = search rules
 
-add-half-of : tie.Need-overflow-add-half-of
-add-half-of c = search rules
+add_half_of : tie.Need-overflow-add-half-of
+add_half_of c = search rules
 
-half-of-requires-2 : tie.Need-half-of-requires-2
-half-of-requires-2 c κs = search rules
+half_of_requires_2 : tie.Need-half-of-requires-2
+half_of_requires_2 c κs = search rules
 
-add-result : tie.Need-overflow-add-result
-add-result c = search rules
+add_result : tie.Need-overflow-add-result
+add_result c = search rules
 
-word : (v : List ℕ) (at h l : ℕ) → h ≡ joinedAt v at 2 → l ≡ joinedAt v (at + 4) 2 → 65536 * h + l ≡ joinedAt v at 4
-unfolding joinedAt
+word : (v : List ℕ) (at h l : ℕ) → h ≡ joined_at v at 2 → l ≡ joined_at v (at + 4) 2 → 65536 * h + l ≡ joined_at v at 4
+unfolding joined_at
 word v at h l p q =
     let a : at + 4 + 2 * 0 ≡ at + 2 * 2 = omega arith in
     let b : at + 4 + 2 * 1 ≡ at + 2 * 3 = omega arith in
@@ -39,7 +39,7 @@ returns c =
     let start = at_high.before.before in
     word start.args.v.now start.args.at at_high.half_of_lem.result c.half-of2.result at_high.half_of_lem.ensures.0 c.half-of2.ensures.0
 
-pub word-of-spec : {M : Type 1} → statement M
-word-of-spec =
+pub word_of_spec : {M : Type 1} → statement M
+word_of_spec =
     tie.close
-    (tie.spec half-of-requires mul-result add-half-of half-of-requires-2 add-result returns)
+    (tie.spec half_of_requires mul_result add_half_of half_of_requires_2 add_result returns)

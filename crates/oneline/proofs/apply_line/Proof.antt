@@ -1,111 +1,111 @@
 -- `apply_line` goes by the first of the line's six words.
 use mathlib.Core.Path.{◌∙◌}
-use Rattle.oneline.proofs.WordLaws.{word-refused, word-start, word-step, fits, stepped}
+use Rattle.oneline.proofs.WordLaws.{word_refused, word_start, word_step, fits, stepped}
 use borrow.Author.Rules.{rules}
 use Rattle.oneline.proofs.apply_line.Statement.{statement}
 use Rattle.oneline.proofs.apply_line.Tie as tie
 
-slice-aggregate-read-words : tie.Need-slice-aggregate-read-words
-slice-aggregate-read-words c = search rules
+slice_aggregate_read_words : tie.Need-slice-aggregate-read-words
+slice_aggregate_read_words c = search rules
 
-read-words-requires : tie.Need-read-words-requires
-read-words-requires c κs = search rules
+read_words_requires : tie.Need-read-words-requires
+read_words_requires c κs = search rules
 
-refused-requires : tie.Need-refused-requires
-refused-requires c κs = search rules
+refused_requires : tie.Need-refused-requires
+refused_requires c κs = search rules
 
 returns : tie.Need-returns
 returns c =
-    let at-if1 = c.before in
-    let at_read = at-if1.before.before.before in
+    let at_if1 = c.before in
+    let at_read = at_if1.before.before.before in
     let start = at_read.before.before.before.before in
     let l = start.args.line.now in
-    let read = at_read.read-words in
+    let read = at_read.read_words_lem in
     let v = read.new.1.0 in
-    let d = word-refused start.args.t.now l v read.result read.ensures at-if1.if1.true in
+    let d = word_refused start.args.t.now l v read.result read.ensures at_if1.if1.true in
     (c.refused.ensures ∙ d.0, d.1)
 
-array-read-if2 : tie.Need-array-read-if2
-array-read-if2 c = search rules
+array_read_if2 : tie.Need-array-read-if2
+array_read_if2 c = search rules
 
-refused-requires-2 : tie.Need-refused-requires-2
-refused-requires-2 c κs = search rules
+refused_requires_2 : tie.Need-refused-requires-2
+refused_requires_2 c κs = search rules
 
-returns-2 : tie.Need-returns-2
-returns-2 c =
-    let at-if2 = c.before in
-    let at-if1 = at-if2.before in
-    let at_read = at-if1.before.before.before in
+returns_2 : tie.Need-returns-2
+returns_2 c =
+    let at_if2 = c.before in
+    let at_if1 = at_if2.before in
+    let at_read = at_if1.before.before.before in
     let start = at_read.before.before.before.before in
     let l = start.args.line.now in
-    let read = at_read.read-words in
+    let read = at_read.read_words_lem in
     let v = read.new.1.0 in
-    let d = word-start start.args.t.now l v read.result read.ensures at-if1.if1.false at-if2.if2.true in
+    let d = word_start start.args.t.now l v read.result read.ensures at_if1.if1.false at_if2.if2.true in
     (c.refused2.ensures ∙ d.0, d.1)
 
-array-read-apply-words : tie.Need-array-read-apply-words
-array-read-apply-words c = search rules
+array_read_apply_words : tie.Need-array-read-apply-words
+array_read_apply_words c = search rules
 
-array-read-apply-words-2 : tie.Need-array-read-apply-words-2
-array-read-apply-words-2 c = search rules
+array_read_apply_words_2 : tie.Need-array-read-apply-words-2
+array_read_apply_words_2 c = search rules
 
-array-read-apply-words-3 : tie.Need-array-read-apply-words-3
-array-read-apply-words-3 c = search rules
+array_read_apply_words_3 : tie.Need-array-read-apply-words-3
+array_read_apply_words_3 c = search rules
 
-array-read-apply-words-4 : tie.Need-array-read-apply-words-4
-array-read-apply-words-4 c = search rules
+array_read_apply_words_4 : tie.Need-array-read-apply-words-4
+array_read_apply_words_4 c = search rules
 
-array-read-apply-words-5 : tie.Need-array-read-apply-words-5
-array-read-apply-words-5 c = search rules
+array_read_apply_words_5 : tie.Need-array-read-apply-words-5
+array_read_apply_words_5 c = search rules
 
-array-read-apply-words-6 : tie.Need-array-read-apply-words-6
-array-read-apply-words-6 c = search rules
+array_read_apply_words_6 : tie.Need-array-read-apply-words-6
+array_read_apply_words_6 c = search rules
 
-apply-words-requires : tie.Need-apply-words-requires
-apply-words-requires c κs =
-    let at-if2 = c.before in
-    let at-if1 = at-if2.before in
-    let at_read = at-if1.before.before.before in
+apply_words_requires : tie.Need-apply-words-requires
+apply_words_requires c κs =
+    let at_if2 = c.before in
+    let at_if1 = at_if2.before in
+    let at_read = at_if1.before.before.before in
     let start = at_read.before.before.before.before in
     let l = start.args.line.now in
-    let read = at_read.read-words in
+    let read = at_read.read_words_lem in
     let v = read.new.1.0 in
-    let x = word-step start.args.t.now l v read.result read.ensures at-if1.if1.false at-if2.if2.false in
+    let x = word_step start.args.t.now l v read.result read.ensures at_if1.if1.false at_if2.if2.false in
     fits l v x
 
 same_length : tie.Need-same-length
 same_length c = search rules
 
-returns-3 : tie.Need-returns-3
-returns-3 c =
+returns_3 : tie.Need-returns-3
+returns_3 c =
     let at_done = c.before.before in
-    let at-if2 = at_done.before.before in
-    let at-if1 = at-if2.before in
-    let at_read = at-if1.before.before.before in
+    let at_if2 = at_done.before.before in
+    let at_if1 = at_if2.before in
+    let at_read = at_if1.before.before.before in
     let start = at_read.before.before.before.before in
     let l = start.args.line.now in
-    let read = at_read.read-words in
+    let read = at_read.read_words_lem in
     let v = read.new.1.0 in
-    let x = word-step start.args.t.now l v read.result read.ensures at-if1.if1.false at-if2.if2.false in
+    let x = word_step start.args.t.now l v read.result read.ensures at_if1.if1.false at_if2.if2.false in
     stepped l v x start.args.t.now at_done.apply-words.ensures
 
-pub apply-line-spec : {M : Type 1} → statement M
-apply-line-spec =
+pub apply_line_spec : {M : Type 1} → statement M
+apply_line_spec =
     tie.close
     (tie.spec
-    slice-aggregate-read-words
-    read-words-requires
-    refused-requires
+    slice_aggregate_read_words
+    read_words_requires
+    refused_requires
     returns
-    array-read-if2
-    refused-requires-2
-    returns-2
-    array-read-apply-words
-    array-read-apply-words-2
-    array-read-apply-words-3
-    array-read-apply-words-4
-    array-read-apply-words-5
-    array-read-apply-words-6
-    apply-words-requires
+    array_read_if2
+    refused_requires_2
+    returns_2
+    array_read_apply_words
+    array_read_apply_words_2
+    array_read_apply_words_3
+    array_read_apply_words_4
+    array_read_apply_words_5
+    array_read_apply_words_6
+    apply_words_requires
     same_length
-    returns-3)
+    returns_3)

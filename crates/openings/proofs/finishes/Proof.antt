@@ -6,8 +6,8 @@ use Rattle.openings.proofs.finishes.Tie as tie
 returns : tie.Need-returns
 returns c = rw (eq-eqb c.before.args.outcome c.before.args.only c.if1.true)
 
-returns-2 : tie.Need-returns-2
-returns-2 c = rw (ne_eqb c.before.args.outcome c.before.args.only c.if1.false)
+returns_2 : tie.Need-returns-2
+returns_2 c = rw (ne_eqb c.before.args.outcome c.before.args.only c.if1.false)
 
-pub finishes-spec : {M : Type 1} → statement M
-finishes-spec = tie.close (tie.spec returns returns-2)
+pub finishes_spec : {M : Type 1} → statement M
+finishes_spec = tie.close (tie.spec returns returns_2)

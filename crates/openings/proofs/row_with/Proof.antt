@@ -3,59 +3,59 @@ use mathlib.Core.Path.{◌≡◌, ap, ◌∙◌}
 use mathlib.Core.List.{List}
 use Prim.Native.Nat.{ℕ, ◌+◌, ◌-◌}
 use lib.ListN.{take, drop, set}
-use Rattle.meaning.specs.Table.{part, nodesMost}
-use Rattle.meaning.proofs.PlaceLaws.{part-lent}
+use Rattle.meaning.specs.Table.{part, nodes_most}
+use Rattle.meaning.proofs.PlaceLaws.{part_lent}
 use borrow.Author.Rules.{rules}
 use Rattle.openings.proofs.row_with.Statement.{statement}
 use Rattle.openings.proofs.row_with.Tie as tie
 
-changed : (t w : List ℕ) (at i v : ℕ) → w ≡ take ((at + nodesMost) - at) (drop at t) → set w i v ≡ set (part at nodesMost t) i v
-changed t w at i v e = ap (λ (z : List ℕ). set z i v) (e ∙ part-lent at nodesMost t)
+changed : (t w : List ℕ) (at i v : ℕ) → w ≡ take ((at + nodes_most) - at) (drop at t) → set w i v ≡ set (part at nodes_most t) i v
+changed t w at i v e = ap (λ (z : List ℕ). set z i v) (e ∙ part_lent at nodes_most t)
 
-add-end : tie.Need-overflow-add-end
-add-end c = search rules
+add_end : tie.Need-overflow-add-end
+add_end c = search rules
 
-mul-copy-row : tie.Need-overflow-mul-copy-row
-mul-copy-row c = search rules
+mul_copy_row : tie.Need-overflow-mul-copy-row
+mul_copy_row c = search rules
 
-sub-copy-row : tie.Need-overflow-sub-copy-row
-sub-copy-row c = search rules
+sub_copy_row : tie.Need-overflow-sub-copy-row
+sub_copy_row c = search rules
 
-part-copy-row-start : tie.Need-slice-bounds-copy-row-start
-part-copy-row-start c = search rules
+part_copy_row_start : tie.Need-slice-bounds-copy-row-start
+part_copy_row_start c = search rules
 
-part-copy-row-end : tie.Need-slice-bounds-copy-row-end
-part-copy-row-end c = search rules
+part_copy_row_end : tie.Need-slice-bounds-copy-row-end
+part_copy_row_end c = search rules
 
-copy-row-requires : tie.Need-copy-row-requires
-copy-row-requires c κs = search rules
+copy_row_requires : tie.Need-copy-row-requires
+copy_row_requires c κs = search rules
 
-mul-row : tie.Need-overflow-mul-row
-mul-row c = search rules
+mul_row : tie.Need-overflow-mul-row
+mul_row c = search rules
 
-slice-write-row : tie.Need-slice-write-row
-slice-write-row c = search rules
+slice_write_row : tie.Need-slice-write-row
+slice_write_row c = search rules
 
 same_length : tie.Need-same-length
 same_length c = search rules
 
 returns : tie.Need-returns
 returns c =
-    let at-copy-row = c.before.before in
-    let start = at-copy-row.before.before.before.before.before in
-    changed start.args.t.now at-copy-row.copy-row.new.0 start.args.at start.args.i start.args.v at-copy-row.copy-row.ensures
+    let at_copy_row = c.before.before in
+    let start = at_copy_row.before.before.before.before.before in
+    changed start.args.t.now at_copy_row.copy-row.new.0 start.args.at start.args.i start.args.v at_copy_row.copy-row.ensures
 
-pub row-with-spec : {M : Type 1} → statement M
-row-with-spec =
+pub row_with_spec : {M : Type 1} → statement M
+row_with_spec =
     tie.close
     (tie.spec
-    add-end
-    mul-copy-row
-    sub-copy-row
-    part-copy-row-start
-    part-copy-row-end
-    copy-row-requires
-    mul-row
-    slice-write-row
+    add_end
+    mul_copy_row
+    sub_copy_row
+    part_copy_row_start
+    part_copy_row_end
+    copy_row_requires
+    mul_row
+    slice_write_row
     same_length
     returns)

@@ -2,166 +2,166 @@
 use Prim.Native.Nat.{ℕ, ◌<◌}
 use mathlib.Core.Path.{sym}
 use native.Mathlib.Omega.{arith}
-use Rattle.printing.proofs.Writing.{wrote_none, wrote_then, wrote_as, digits-none, digits-one, digits_more}
+use Rattle.printing.proofs.Writing.{wrote_none, wrote_then, wrote_as, digits_none, digits_one, digits_more}
 use borrow.Fn.Kinds.{In}
 use borrow.Fn.PlainCycle.{Measures, is, falls, and}
 use Rattle.printing.proofs.digits.Reads as digits
-use Rattle.printing.proofs.digits.Kinds as digits-kinds
-use Rattle.printing.proofs.+digits.Lts-digits as digits-lts
+use Rattle.printing.proofs.digits.Kinds as digits_kinds
+use Rattle.printing.proofs.+digits.Lts-digits as digits_lts
 use Rattle.printing.proofs.put.Reads as put_reads
 use Rattle.printing.proofs.+digits.{statement}
 use Rattle.printing.proofs.+digits.Tie.{close}
 
-abbrev μ-digits : Measures 1 digits-kinds.ps ℕ
+abbrev μ-digits : Measures 1 digits_kinds.ps ℕ
 μ-digits κs a = a.1.1.0
 
-abbrev digits-at : ℕ → In 1 digits-kinds.ps
-digits-at t = and 1 digits-kinds.ps (is 1 digits-kinds.ps μ-digits t) digits.Pre
+abbrev digits_at : ℕ → In 1 digits_kinds.ps
+digits_at t = and 1 digits_kinds.ps (is 1 digits_kinds.ps μ-digits t) digits.Pre
 
-abbrev digits-below : ℕ → In 1 digits-kinds.ps
-digits-below t = and 1 digits-kinds.ps (falls 1 digits-kinds.ps ◌<◌ μ-digits t) digits.Pre
+abbrev digits_below : ℕ → In 1 digits_kinds.ps
+digits_below t = and 1 digits_kinds.ps (falls 1 digits_kinds.ps ◌<◌ μ-digits t) digits.Pre
 
-digits-returns : (t : ℕ) → digits-lts.Need-returns (
+digits_returns : (t : ℕ) → digits_lts.Need-returns (
   put_reads.Asked,
   put_reads.Learnt,
-  digits-below t,
+  digits_below t,
   digits.Post,
-) (digits-at t) digits.Post
-digits-returns t c =
+) (digits_at t) digits.Post
+digits_returns t c =
     let s = c.before.before in
-    rw c.if1.true (wrote_as (sym (digits-none s.args.v)) (omega arith) (wrote_none s.args.out.now s.args.at 0))
+    rw c.if1.true (wrote_as (sym (digits_none s.args.v)) (omega arith) (wrote_none s.args.out.now s.args.at 0))
 
-digits-add-put : (t : ℕ) → digits-lts.Need-overflow-add-put (
+digits_add_put : (t : ℕ) → digits_lts.Need-overflow-add-put (
   put_reads.Asked,
   put_reads.Learnt,
-  digits-below t,
+  digits_below t,
   digits.Post,
-) (digits-at t) digits.Post
-digits-add-put t c = omega arith
+) (digits_at t) digits.Post
+digits_add_put t c = omega arith
 
-digits-cast-put : (t : ℕ) → digits-lts.Need-overflow-cast-put (
+digits_cast_put : (t : ℕ) → digits_lts.Need-overflow-cast-put (
   put_reads.Asked,
   put_reads.Learnt,
-  digits-below t,
+  digits_below t,
   digits.Post,
-) (digits-at t) digits.Post
-digits-cast-put t c = omega arith
+) (digits_at t) digits.Post
+digits_cast_put t c = omega arith
 
-digits-put-requires : (t : ℕ) → digits-lts.Need-put-requires (
+digits_put_requires : (t : ℕ) → digits_lts.Need-put-requires (
   put_reads.Asked,
   put_reads.Learnt,
-  digits-below t,
+  digits_below t,
   digits.Post,
-) (digits-at t) digits.Post
-digits-put-requires t c κs = omega arith
+) (digits_at t) digits.Post
+digits_put_requires t c κs = omega arith
 
-digits-same-length : (t : ℕ) → digits-lts.Need-same-length (
+digits_same_length : (t : ℕ) → digits_lts.Need-same-length (
   put_reads.Asked,
   put_reads.Learnt,
-  digits-below t,
+  digits_below t,
   digits.Post,
-) (digits-at t) digits.Post
-digits-same-length t c = omega arith
+) (digits_at t) digits.Post
+digits_same_length t c = omega arith
 
-digits-returns-2 : (t : ℕ) → digits-lts.Need-returns-2 (
+digits_returns_2 : (t : ℕ) → digits_lts.Need-returns-2 (
   put_reads.Asked,
   put_reads.Learnt,
-  digits-below t,
+  digits_below t,
   digits.Post,
-) (digits-at t) digits.Post
-digits-returns-2 t c =
-    let at-put = c.before.before in
-    let at-if2 = at-put.before.before in
-    let at-if1 = at-if2.before in
-    let s = at-if1.before.before in
-    wrote_as (sym (digits-one s.args.most s.args.v at-if1.if1.false at-if2.if2.true)) (omega arith) at-put.put.ensures
+) (digits_at t) digits.Post
+digits_returns_2 t c =
+    let at_put = c.before.before in
+    let at_if2 = at_put.before.before in
+    let at_if1 = at_if2.before in
+    let s = at_if1.before.before in
+    wrote_as (sym (digits_one s.args.most s.args.v at_if1.if1.false at_if2.if2.true)) (omega arith) at_put.put.ensures
 
-digits-sub-digits : (t : ℕ) → digits-lts.Need-overflow-sub-digits (
+digits_sub_digits : (t : ℕ) → digits_lts.Need-overflow-sub-digits (
   put_reads.Asked,
   put_reads.Learnt,
-  digits-below t,
+  digits_below t,
   digits.Post,
-) (digits-at t) digits.Post
-digits-sub-digits t c = omega arith
+) (digits_at t) digits.Post
+digits_sub_digits t c = omega arith
 
-digits-digits-requires : (t : ℕ) → digits-lts.Need-digits-requires (
+digits_digits_requires : (t : ℕ) → digits_lts.Need-digits-requires (
   put_reads.Asked,
   put_reads.Learnt,
-  digits-below t,
+  digits_below t,
   digits.Post,
-) (digits-at t) digits.Post
-digits-digits-requires t c κs = (omega arith, omega arith)
+) (digits_at t) digits.Post
+digits_digits_requires t c κs = (omega arith, omega arith)
 
-digits-add-put-2 : (t : ℕ) → digits-lts.Need-overflow-add-put-2 (
+digits_add_put_2 : (t : ℕ) → digits_lts.Need-overflow-add-put-2 (
   put_reads.Asked,
   put_reads.Learnt,
-  digits-below t,
+  digits_below t,
   digits.Post,
-) (digits-at t) digits.Post
-digits-add-put-2 t c = omega arith
+) (digits_at t) digits.Post
+digits_add_put_2 t c = omega arith
 
-digits-cast-put-2 : (t : ℕ) → digits-lts.Need-overflow-cast-put-2 (
+digits_cast_put_2 : (t : ℕ) → digits_lts.Need-overflow-cast-put-2 (
   put_reads.Asked,
   put_reads.Learnt,
-  digits-below t,
+  digits_below t,
   digits.Post,
-) (digits-at t) digits.Post
-digits-cast-put-2 t c = omega arith
+) (digits_at t) digits.Post
+digits_cast_put_2 t c = omega arith
 
-digits-put-requires-2 : (t : ℕ) → digits-lts.Need-put-requires-2 (
+digits_put_requires_2 : (t : ℕ) → digits_lts.Need-put-requires-2 (
   put_reads.Asked,
   put_reads.Learnt,
-  digits-below t,
+  digits_below t,
   digits.Post,
-) (digits-at t) digits.Post
-digits-put-requires-2 t c κs =
-    let at-digits = c.before.before.before in
-    let at-if1 = at-digits.before.before.before in
-    let s = at-if1.before.before in
-    omega (arith, at-digits.digits.ensures.within, at-digits.digits.auto.0, s.requires.1, at-if1.if1.false)
+) (digits_at t) digits.Post
+digits_put_requires_2 t c κs =
+    let at_digits = c.before.before.before in
+    let at_if1 = at_digits.before.before.before in
+    let s = at_if1.before.before in
+    omega (arith, at_digits.digits.ensures.within, at_digits.digits.auto.0, s.requires.1, at_if1.if1.false)
 
-digits-same-length-2 : (t : ℕ) → digits-lts.Need-same-length-2 (
+digits_same_length_2 : (t : ℕ) → digits_lts.Need-same-length-2 (
   put_reads.Asked,
   put_reads.Learnt,
-  digits-below t,
+  digits_below t,
   digits.Post,
-) (digits-at t) digits.Post
-digits-same-length-2 t c = omega arith
+) (digits_at t) digits.Post
+digits_same_length_2 t c = omega arith
 
-digits-returns-3 : (t : ℕ) → digits-lts.Need-returns-3 (
+digits_returns_3 : (t : ℕ) → digits_lts.Need-returns-3 (
   put_reads.Asked,
   put_reads.Learnt,
-  digits-below t,
+  digits_below t,
   digits.Post,
-) (digits-at t) digits.Post
-digits-returns-3 t c =
-    let at-put2 = c.before.before in
-    let at-digits = at-put2.before.before.before.before in
-    let at-if2 = at-digits.before.before in
-    let at-if1 = at-if2.before in
-    let s = at-if1.before.before in
-    wrote_as (sym (digits_more s.args.most s.args.v at-if1.if1.false at-if2.if2.false)) (omega arith)
-    (wrote_then (omega arith) at-digits.digits.ensures at-put2.put2.ensures)
+) (digits_at t) digits.Post
+digits_returns_3 t c =
+    let at_put2 = c.before.before in
+    let at_digits = at_put2.before.before.before.before in
+    let at_if2 = at_digits.before.before in
+    let at_if1 = at_if2.before in
+    let s = at_if1.before.before in
+    wrote_as (sym (digits_more s.args.most s.args.v at_if1.if1.false at_if2.if2.false)) (omega arith)
+    (wrote_then (omega arith) at_digits.digits.ensures at_put2.put2.ensures)
 
 pub +digits-spec : {M : Type 1} → statement M
-+digits-spec = close μ-digits λ t. digits-lts.spec (
++digits-spec = close μ-digits λ t. digits_lts.spec (
   put_reads.Asked,
   put_reads.Learnt,
-  digits-below t,
+  digits_below t,
   digits.Post,
 )
-    (digits-at t)
+    (digits_at t)
     digits.Post
-    (digits-returns t)
-    (digits-add-put t)
-    (digits-cast-put t)
-    (digits-put-requires t)
-    (digits-same-length t)
-    (digits-returns-2 t)
-    (digits-sub-digits t)
-    (digits-digits-requires t)
-    (digits-add-put-2 t)
-    (digits-cast-put-2 t)
-    (digits-put-requires-2 t)
-    (digits-same-length-2 t)
-    (digits-returns-3 t)
+    (digits_returns t)
+    (digits_add_put t)
+    (digits_cast_put t)
+    (digits_put_requires t)
+    (digits_same_length t)
+    (digits_returns_2 t)
+    (digits_sub_digits t)
+    (digits_digits_requires t)
+    (digits_add_put_2 t)
+    (digits_cast_put_2 t)
+    (digits_put_requires_2 t)
+    (digits_same_length_2 t)
+    (digits_returns_3 t)

@@ -4,8 +4,8 @@ use borrow.Author.Rules.{rules}
 use Rattle.printing.proofs.number.Statement.{statement}
 use Rattle.printing.proofs.number.Tie as tie
 
-digits-requires : tie.Need-digits-requires
-digits-requires c κs = search rules
+digits_requires : tie.Need-digits-requires
+digits_requires c κs = search rules
 
 same_length : tie.Need-same-length
 same_length c = search rules
@@ -14,5 +14,5 @@ returns : tie.Need-returns
 unfolding decimal
 returns c = c.before.before.digits.ensures
 
-pub number-spec : {M : Type 1} → statement M
-number-spec = tie.close (tie.spec digits-requires same_length returns)
+pub number_spec : {M : Type 1} → statement M
+number_spec = tie.close (tie.spec digits_requires same_length returns)

@@ -7,14 +7,14 @@ use native.Mathlib.Nat.{add-zero}
 use mathlib.Core.List.{List, ◌++◌}
 use lib.ListN.{length, get_or, take, drop, length-append}
 use Rattle.meaning.specs.declared.Record.{Record}
-use Rattle.meaning.specs.Rows.{all, recordAt, records, words}
-use Rattle.meaning.specs.Table.{held, node, part, place, logMost, recordSound}
-use Rattle.meaning.proofs.PlaceLaws.{mid-place, place-inner, place-append, place-part, length-place, length_part, get_d_part}
+use Rattle.meaning.specs.Rows.{all, record_at, records, words}
+use Rattle.meaning.specs.Table.{held, node, part, place, log_most, record_sound}
+use Rattle.meaning.proofs.PlaceLaws.{mid_place, place_inner, place-append, place-part, length-place, length_part, get_d_part}
 use Rattle.meaning.proofs.PutLaws.{words-records, part-part}
-use Rattle.meaning.proofs.RowLaws.{and_right, all_append, length-keep, length-words, length-records, words_append, recordAt-agree}
+use Rattle.meaning.proofs.RowLaws.{and_right, all_append, length-keep, length-words, length-records, words_append, record_at_agree}
 use Rattle.logs.specs.Carry.{goes, stay, AllBarred, FirstLeaving, Closes}
-use Rattle.logs.proofs.MoveLaws.{records-from, stay-from}
-use Rattle.purges.specs.Dropped.{logFrom, logOf, Drops}
+use Rattle.logs.proofs.MoveLaws.{records_from, stay_from}
+use Rattle.purges.specs.Dropped.{log_from, log_of, Drops}
 use borrow.Author.Rules.{rules}
 use Rattle.purges.proofs.close_log.Statement.{statement}
 use Rattle.purges.proofs.close_log.Tie as tie
@@ -24,156 +24,156 @@ abbrev lent : List ℕ → ℕ → ℕ → ℕ → List ℕ
 lent t at f k = take ((at + 4 * k) - (at + 4 * f)) (drop (at + 4 * f) t)
 
 module _
-    (t : List ℕ) (p k : ℕ) (barred : Bool) (bars : List ℕ) (d : Drops t p k barred bars) (limit at f : ℕ) (ea : at ≡ logFrom p t) (b : f < k)
-    (found : FirstLeaving (goes barred bars limit) k (logOf p t) f)
+    (t : List ℕ) (p k : ℕ) (barred : Bool) (bars : List ℕ) (d : Drops t p k barred bars) (limit at f : ℕ) (ea : at ≡ log_from p t) (b : f < k)
+    (found : FirstLeaving (goes barred bars limit) k (log_of p t) f)
   where
     abbrev leaves : Record → Bool
     leaves = goes barred bars limit
 
-    inside : (logFrom p t + 4 * logMost ≤ length t) × (k ≤ logMost)
+    inside : (log_from p t + 4 * log_most ≤ length t) × (k ≤ log_most)
     inside =
-        let l = d.isSound.long in
-        let g = d.isSound.high in
+        let l = d.is_sound.long in
+        let g = d.is_sound.high in
         let h = d.there in
         (omega arith, d.room)
 
-    lent_is : lent t at f k ≡ part (logFrom p t + 4 * f) (4 * (k - f)) t
+    lent_is : lent t at f k ≡ part (log_from p t + 4 * f) (4 * (k - f)) t
     unfolding part
     lent_is =
         let e : (at + 4 * k) - (at + 4 * f) ≡ 4 * (k - f) = omega arith in
         ap₂ (λ (m a : ℕ). take m (drop (a + 4 * f) t)) e ea
 
-    lent-long : length (lent t at f k) ≡ 4 * (k - f)
-    lent-long =
+    lent_long : length (lent t at f k) ≡ 4 * (k - f)
+    lent_long =
         let i = inside in
-        ap length lent_is ∙ length_part (logFrom p t + 4 * f) (4 * (k - f)) t (omega arith)
+        ap length lent_is ∙ length_part (log_from p t + 4 * f) (4 * (k - f)) t (omega arith)
 
-    same : (j : ℕ) → j < 4 * (k - f) → get_or (lent t at f k) j 0 ≡ get_or (logOf p t) (4 * f + j) 0
+    same : (j : ℕ) → j < 4 * (k - f) → get_or (lent t at f k) j 0 ≡ get_or (log_of p t) (4 * f + j) 0
     same j l =
         let i = inside in
         ap (λ (x : List ℕ). get_or x j 0) lent_is ∙
-        get_d_part (logFrom p t + 4 * f) (4 * (k - f)) t j (logFrom p t + 4 * f + j) refl l ∙
-        sym (get_d_part (logFrom p t) (4 * logMost) t (4 * f + j) (logFrom p t + 4 * f + j) (omega arith) (omega arith))
+        get_d_part (log_from p t + 4 * f) (4 * (k - f)) t j (log_from p t + 4 * f + j) refl l ∙
+        sym (get_d_part (log_from p t) (4 * log_most) t (4 * f + j) (log_from p t + 4 * f + j) (omega arith) (omega arith))
 
     -- the whole log is the rows before and the rows lent
-    whole : (node t p).log ≡ records f (logOf p t) ++ records (k - f) (lent t at f k)
+    whole : (node t p).log ≡ records f (log_of p t) ++ records (k - f) (lent t at f k)
     unfolding node
     whole =
         let q = d.many in
         let e : held t p ≡ f + (k - f) = omega arith in
-        ap (λ (m : ℕ). records m (logOf p t)) e ∙ records-from f (k - f) (logOf p t) (lent t at f k) same
+        ap (λ (m : ℕ). records m (log_of p t)) e ∙ records_from f (k - f) (log_of p t) (lent t at f k) same
 
     each : AllBarred barred bars (records (k - f) (lent t at f k))
     each some =
-        let each = recordSound (length bars) in
-        and_right (all each (records f (logOf p t))) (all each (records (k - f) (lent t at f k)))
-        (sym (ap (all each) whole ∙ all_append each (records f (logOf p t)) (records (k - f) (lent t at f k))) ∙ d.each some)
+        let each = record_sound (length bars) in
+        and_right (all each (records f (log_of p t))) (all each (records (k - f) (lent t at f k)))
+        (sym (ap (all each) whole ∙ all_append each (records f (log_of p t)) (records (k - f) (lent t at f k))) ∙ d.each some)
 
     ready : Closes barred bars limit (k - f) (lent t at f k)
     ready =
-        let l = lent-long in
-        let e : recordAt (lent t at f k) 0 ≡ recordAt (logOf p t) f =
-        recordAt-agree (lent t at f k) (logOf p t) 0 f (λ j g. ap (λ (m : ℕ). get_or (lent t at f k) m 0) (omega arith) ∙ same j (omega arith))
+        let l = lent_long in
+        let e : record_at (lent t at f k) 0 ≡ record_at (log_of p t) f =
+        record_at_agree (lent t at f k) (log_of p t) 0 f (λ j g. ap (λ (m : ℕ). get_or (lent t at f k) m 0) (omega arith) ∙ same j (omega arith))
         in
         record { some = omega arith; inside = omega arith; first = ap leaves e ∙ found.first b; each = each }
 
     -- what stays of the whole log
-    split : stay leaves (node t p).log ≡ records f (logOf p t) ++ stay leaves (records (k - f) (lent t at f k))
+    split : stay leaves (node t p).log ≡ records f (log_of p t) ++ stay leaves (records (k - f) (lent t at f k))
     unfolding node
     split =
         let q = d.many in
         let e : held t p ≡ f + (k - f) = omega arith in
-        ap (λ (m : ℕ). stay leaves (records m (logOf p t))) e ∙
-        stay-from leaves f (k - f) (logOf p t) (lent t at f k) found.before same
+        ap (λ (m : ℕ). stay leaves (records m (log_of p t))) e ∙
+        stay_from leaves f (k - f) (log_of p t) (lent t at f k) found.before same
 
     many :
         (n : ℕ) → n ≡ length (stay leaves (records (k - f) (lent t at f k))) → (f + n ≡ length (stay leaves (node t p).log)) × (f + n ≤ k)
     many n e =
-        let l = ap length split ∙ length-append (records f (logOf p t)) (stay leaves (records (k - f) (lent t at f k))) in
-        let m = length-records f (logOf p t) in
+        let l = ap length split ∙ length-append (records f (log_of p t)) (stay leaves (records (k - f) (lent t at f k))) in
+        let m = length-records f (log_of p t) in
         let g = length-keep (λ (r : Record). not (leaves r)) (records (k - f) (lent t at f k)) in
         let o = length-records (k - f) (lent t at f k) in
         (omega arith, omega arith)
 
     -- the rows before are put where they are
-    before : place (logFrom p t) (words (records f (logOf p t))) t ≡ t
+    before : place (log_from p t) (words (records f (log_of p t))) t ≡ t
     before =
         let i = inside in
-        let l = length_part (logFrom p t) (4 * logMost) t i.0 in
-        ap (λ (x : List ℕ). place (logFrom p t) x t)
-        (words-records f (logOf p t) (omega arith) ∙ part-part (logFrom p t) (4 * logMost) (4 * f) t (omega arith)) ∙
-        place-part (logFrom p t) (4 * f) t (omega arith)
+        let l = length_part (log_from p t) (4 * log_most) t i.0 in
+        ap (λ (x : List ℕ). place (log_from p t) x t)
+        (words-records f (log_of p t) (omega arith) ∙ part-part (log_from p t) (4 * log_most) (4 * f) t (omega arith)) ∙
+        place-part (log_from p t) (4 * f) t (omega arith)
 
     -- the table when the rows have come back closed up
     closed :
         (w : List ℕ) → w ≡ place 0 (words (stay leaves (records (k - f) (lent t at f k)))) (lent t at f k) →
-        take (at + 4 * f) t ++ (w ++ drop ((at + 4 * k) - (at + 4 * f)) (drop (at + 4 * f) t)) ≡ place (logFrom p t) (words (stay leaves (node t p).log)) t
+        take (at + 4 * f) t ++ (w ++ drop ((at + 4 * k) - (at + 4 * f)) (drop (at + 4 * f) t)) ≡ place (log_from p t) (words (stay leaves (node t p).log)) t
     closed w e =
         let i = inside in
         let rs : List Record = stay leaves (records (k - f) (lent t at f k)) in
         let lw = length-words rs in
         let la = length-keep (λ (r : Record). not (leaves r)) (records (k - f) (lent t at f k)) in
         let lr = length-records (k - f) (lent t at f k) in
-        let ll = lent-long in
-        let lx = length-words (records f (logOf p t)) in
-        let ly = length-records f (logOf p t) in
+        let ll = lent_long in
+        let lx = length-words (records f (log_of p t)) in
+        let ly = length-records f (log_of p t) in
         let lp = length-place 0 (words rs) (lent t at f k) (omega arith) in
         let lq : length w ≡ (at + 4 * k) - (at + 4 * f) = ap length e ∙ omega arith in
-        mid-place (at + 4 * f) ((at + 4 * k) - (at + 4 * f)) t w lq ∙
+        mid_place (at + 4 * f) ((at + 4 * k) - (at + 4 * f)) t w lq ∙
         ap₂ (λ (a : ℕ) (x : List ℕ). place (a + 4 * f) x t) ea (e ∙ ap (place 0 (words rs)) lent_is) ∙
-        place-inner (logFrom p t + 4 * f) (4 * (k - f)) 0 (logFrom p t + 4 * f) (words rs) t (sym (add-zero (logFrom p t + 4 * f))) (omega arith)
+        place_inner (log_from p t + 4 * f) (4 * (k - f)) 0 (log_from p t + 4 * f) (words rs) t (sym (add-zero (log_from p t + 4 * f))) (omega arith)
         (omega arith) ∙
-        ap (place (logFrom p t + 4 * f) (words rs)) (sym before) ∙
-        place-append (logFrom p t) (logFrom p t + 4 * f) (words (records f (logOf p t))) (words rs) t (omega arith) (omega arith) ∙
-        ap (λ (x : List ℕ). place (logFrom p t) x t) (sym (words_append (records f (logOf p t)) rs)) ∙
-        ap (λ (x : List Record). place (logFrom p t) (words x) t) (sym split)
+        ap (place (log_from p t + 4 * f) (words rs)) (sym before) ∙
+        place-append (log_from p t) (log_from p t + 4 * f) (words (records f (log_of p t))) (words rs) t (omega arith) (omega arith) ∙
+        ap (λ (x : List ℕ). place (log_from p t) x t) (sym (words_append (records f (log_of p t)) rs)) ∙
+        ap (λ (x : List Record). place (log_from p t) (words x) t) (sym split)
 
-log-at-requires : tie.Need-log-at-requires
-log-at-requires c κs = search rules
+log_at_requires : tie.Need-log-at-requires
+log_at_requires c κs = search rules
 
-mul-from : tie.Need-overflow-mul-from
-mul-from c = search rules
+mul_from : tie.Need-overflow-mul-from
+mul_from c = search rules
 
-add-from : tie.Need-overflow-add-from
-add-from c = search rules
+add_from : tie.Need-overflow-add-from
+add_from c = search rules
 
-mul-end : tie.Need-overflow-mul-end
-mul-end c = search rules
+mul_end : tie.Need-overflow-mul-end
+mul_end c = search rules
 
-add-end : tie.Need-overflow-add-end
-add-end c = search rules
+add_end : tie.Need-overflow-add-end
+add_end c = search rules
 
-mul-close-up : tie.Need-overflow-mul-close-up
-mul-close-up c = search rules
+mul_close_up : tie.Need-overflow-mul-close-up
+mul_close_up c = search rules
 
-sub-close-up : tie.Need-overflow-sub-close-up
-sub-close-up c = search rules
+sub_close_up : tie.Need-overflow-sub-close-up
+sub_close_up c = search rules
 
-part-close-up-start : tie.Need-slice-bounds-close-up-start
-part-close-up-start c = search rules
+part_close_up_start : tie.Need-slice-bounds-close-up-start
+part_close_up_start c = search rules
 
-part-close-up-end : tie.Need-slice-bounds-close-up-end
-part-close-up-end c = search rules
+part_close_up_end : tie.Need-slice-bounds-close-up-end
+part_close_up_end c = search rules
 
-sub-close-up-2 : tie.Need-overflow-sub-close-up-2
-sub-close-up-2 c = search rules
+sub_close_up_2 : tie.Need-overflow-sub-close-up-2
+sub_close_up_2 c = search rules
 
-close-up-requires : tie.Need-close-up-requires
-close-up-requires c κs =
-    let at-log-at = c.before in
-    let start = at-log-at.before.before.before.before in
+close_up_requires : tie.Need-close-up-requires
+close_up_requires c κs =
+    let at_log_at = c.before in
+    let start = at_log_at.before.before.before.before in
     ready start.args.t.now start.args.p start.args.held start.args.barred start.args.bars.now start.requires.0.0 start.args.limit
-    at-log-at.log-at.result start.args.first at-log-at.log-at.ensures start.requires.0.1 start.requires.1
+    at_log_at.log-at.result start.args.first at_log_at.log-at.ensures start.requires.0.1 start.requires.1
 
-add-result : tie.Need-overflow-add-result
-add-result c =
-    let at-close-up = c.before.before in
-    let at-log-at = at-close-up.before.before in
-    let start = at-log-at.before.before.before.before in
+add_result : tie.Need-overflow-add-result
+add_result c =
+    let at_close_up = c.before.before in
+    let at_log_at = at_close_up.before.before in
+    let start = at_log_at.before.before.before.before in
     let m =
     many start.args.t.now start.args.p start.args.held start.args.barred start.args.bars.now start.requires.0.0 start.args.limit
-    at-log-at.log-at.result start.args.first at-log-at.log-at.ensures start.requires.0.1 start.requires.1 at-close-up.close_up.result
-    at-close-up.close_up.ensures.many
+    at_log_at.log-at.result start.args.first at_log_at.log-at.ensures start.requires.0.1 start.requires.1 at_close_up.close_up.result
+    at_close_up.close_up.ensures.many
     in
     omega (arith, m.1)
 
@@ -182,44 +182,44 @@ same_length c = search rules
 
 returns : tie.Need-returns
 returns c =
-    let at-close-up = c.before.before in
-    let at-log-at = at-close-up.before.before in
-    let start = at-log-at.before.before.before.before in
+    let at_close_up = c.before.before in
+    let at_log_at = at_close_up.before.before in
+    let start = at_log_at.before.before.before.before in
     let t = start.args.t.now in
     let p = start.args.p in
-    let at = at-log-at.log-at.result in
+    let at = at_log_at.log-at.result in
     let f = start.args.first in
     let k = start.args.held in
     let bars = start.args.bars.now in
     let limit = start.args.limit in
     let m =
-    many t p k start.args.barred bars start.requires.0.0 limit at f at-log-at.log-at.ensures start.requires.0.1 start.requires.1
-    at-close-up.close_up.result at-close-up.close_up.ensures.many
+    many t p k start.args.barred bars start.requires.0.0 limit at f at_log_at.log-at.ensures start.requires.0.1 start.requires.1
+    at_close_up.close_up.result at_close_up.close_up.ensures.many
     in (
       record {
         many = m.0;
         leaves =
-            closed t p k start.args.barred bars start.requires.0.0 limit at f at-log-at.log-at.ensures start.requires.0.1 start.requires.1
-            at-close-up.close_up.new.0 at-close-up.close_up.ensures.leaves;
+            closed t p k start.args.barred bars start.requires.0.0 limit at f at_log_at.log-at.ensures start.requires.0.1 start.requires.1
+            at_close_up.close_up.new.0 at_close_up.close_up.ensures.leaves;
       },
       m.1,
     )
 
-pub close-log-spec : {M : Type 1} → statement M
-close-log-spec =
+pub close_log_spec : {M : Type 1} → statement M
+close_log_spec =
     tie.close
     (tie.spec
-    log-at-requires
-    mul-from
-    add-from
-    mul-end
-    add-end
-    mul-close-up
-    sub-close-up
-    part-close-up-start
-    part-close-up-end
-    sub-close-up-2
-    close-up-requires
-    add-result
+    log_at_requires
+    mul_from
+    add_from
+    mul_end
+    add_end
+    mul_close_up
+    sub_close_up
+    part_close_up_start
+    part_close_up_end
+    sub_close_up_2
+    close_up_requires
+    add_result
     same_length
     returns)

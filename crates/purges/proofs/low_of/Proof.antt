@@ -5,14 +5,14 @@ use native.Mathlib.Omega.{arith}
 use mathlib.Core.List.{List}
 use lib.ListN.{take, drop, get_or, set}
 use lib.Seq.{set-get_or}
-use Rattle.meaning.specs.Rows.{least, leastAt}
+use Rattle.meaning.specs.Rows.{least, least_at}
 use Rattle.meaning.specs.Node.{lows}
 use Rattle.meaning.specs.Steps.{lagging}
-use Rattle.meaning.specs.Table.{Form, acksWide, count, node, Sound}
-use Rattle.meaning.proofs.PlaceLaws.{part-lent, inside-lent, get_d_part}
-use Rattle.meaning.proofs.RowLaws.{leastAt-below}
-use Rattle.meaning.proofs.TableLaws.{node-shaped}
-use Rattle.purges.proofs.PurgeLaws.{acks-lent}
+use Rattle.meaning.specs.Table.{Form, acks_wide, count, node, Sound}
+use Rattle.meaning.proofs.PlaceLaws.{part_lent, inside_lent, get_d_part}
+use Rattle.meaning.proofs.RowLaws.{least_at_below}
+use Rattle.meaning.proofs.TableLaws.{node_shaped}
+use Rattle.purges.proofs.PurgeLaws.{acks_lent}
 use borrow.Author.Rules.{rules}
 use Rattle.purges.proofs.low_of.Statement.{statement}
 use Rattle.purges.proofs.low_of.Tie as tie
@@ -21,79 +21,79 @@ use Rattle.purges.proofs.low_of.Tie as tie
 own : (t : List ℕ) (at n : ℕ) → 0 < n → set (take ((at + n) - at) (drop at t)) 0 (get_or t at 0) ≡ take ((at + n) - at) (drop at t)
 own t at n h =
     let e : get_or (take ((at + n) - at) (drop at t)) 0 0 ≡ get_or t at 0 =
-    ap (λ (l : List ℕ). get_or l 0 0) (part-lent at n t) ∙ get_d_part at n t 0 at (omega arith) h
+    ap (λ (l : List ℕ). get_or l 0 0) (part_lent at n t) ∙ get_d_part at n t 0 at (omega arith) h
     in
     ap (set (take ((at + n) - at) (drop at t)) 0) (sym e) ∙ set-get_or (take ((at + n) - at) (drop at t)) 0 0
 
-acks-at-requires : tie.Need-acks-at-requires
-acks-at-requires c κs = search rules
+acks_at_requires : tie.Need-acks-at-requires
+acks_at_requires c κs = search rules
 
-add-end : tie.Need-overflow-add-end
-add-end c = search rules
+add_end : tie.Need-overflow-add-end
+add_end c = search rules
 
-mul-least-with : tie.Need-overflow-mul-least-with
-mul-least-with c = search rules
+mul_least_with : tie.Need-overflow-mul-least-with
+mul_least_with c = search rules
 
-sub-least-with : tie.Need-overflow-sub-least-with
-sub-least-with c = search rules
+sub_least_with : tie.Need-overflow-sub-least-with
+sub_least_with c = search rules
 
-part-least-with-start : tie.Need-slice-bounds-least-with-start
-part-least-with-start c = search rules
+part-least_with_start : tie.Need-slice-bounds-least-with-start
+part-least_with_start c = search rules
 
-part-least-with-end : tie.Need-slice-bounds-least-with-end
-part-least-with-end c = search rules
+part-least_with_end : tie.Need-slice-bounds-least-with-end
+part-least_with_end c = search rules
 
-mul-least-with-2 : tie.Need-overflow-mul-least-with-2
-mul-least-with-2 c = search rules
+mul_least_with_2 : tie.Need-overflow-mul-least-with-2
+mul_least_with_2 c = search rules
 
-shared-slice-read-least-with : tie.Need-shared-slice-read-least-with
-shared-slice-read-least-with c = search rules
+shared_slice_read_least_with : tie.Need-shared-slice-read-least-with
+shared_slice_read_least_with c = search rules
 
-least-with-requires : tie.Need-least-with-requires
-least-with-requires c κs =
-    let at-acks-at = c.before.before in
-    let start = at-acks-at.before.before in
+least_with_requires : tie.Need-least-with-requires
+least_with_requires c κs =
+    let at_acks_at = c.before.before in
+    let start = at_acks_at.before.before in
     let s : Sound start.args.t.now = start.requires.0 in
     let l = s.long in
     let a = s.low in
     let b = s.high in
     let f = start.requires.2 in
     let h = start.requires.1 in
-    let e = at-acks-at.acks-at.ensures in
-    inside-lent at-acks-at.acks-at.result _ start.args.t.now 0 (omega arith) (omega arith)
+    let e = at_acks_at.acks-at.ensures in
+    inside_lent at_acks_at.acks-at.result _ start.args.t.now 0 (omega arith) (omega arith)
 
 returns : tie.Need-returns
 unfolding lagging lows
 returns c =
-    let at-acks-at = c.before.before.before in
-    let start = at-acks-at.before.before in
+    let at_acks_at = c.before.before.before in
+    let start = at_acks_at.before.before in
     let t = start.args.t.now in
     let s : Sound t = start.requires.0 in
     let a = s.low in
     let f = start.requires.2 in
     let row =
-    own t at-acks-at.acks-at.result start.args.n (omega arith) ∙
-    acks-lent t start.args.p at-acks-at.acks-at.result start.args.n start.requires.3 at-acks-at.acks-at.ensures start.requires.2
+    own t at_acks_at.acks-at.result start.args.n (omega arith) ∙
+    acks_lent t start.args.p at_acks_at.acks-at.result start.args.n start.requires.3 at_acks_at.acks-at.ensures start.requires.2
     in
     let found = c.least-with.ensures in
     let form = start.requires.3 in
-    let at = found.1 ∙ ap leastAt row ∙ ap (λ (f : Form). leastAt (lows f (node t start.args.p))) (sym form) in
-    let wide = (node-shaped t s start.args.p start.requires.1).acksLong ∙ ap (λ (f : Form). acksWide f (count t)) form in
-    let e = found.1 ∙ ap leastAt row in
-    let below = leastAt-below (node t start.args.p).acks (omega arith) in
+    let at = found.1 ∙ ap least_at row ∙ ap (λ (f : Form). least_at (lows f (node t start.args.p))) (sym form) in
+    let wide = (node_shaped t s start.args.p start.requires.1).acks_long ∙ ap (λ (f : Form). acks_wide f (count t)) form in
+    let e = found.1 ∙ ap least_at row in
+    let below = least_at_below (node t start.args.p).acks (omega arith) in
     (found.0 ∙ ap least row, at, omega arith)
 
-pub low-of-spec : {M : Type 1} → statement M
-low-of-spec =
+pub low_of_spec : {M : Type 1} → statement M
+low_of_spec =
     tie.close
     (tie.spec
-    acks-at-requires
-    add-end
-    mul-least-with
-    sub-least-with
-    part-least-with-start
-    part-least-with-end
-    mul-least-with-2
-    shared-slice-read-least-with
-    least-with-requires
+    acks_at_requires
+    add_end
+    mul_least_with
+    sub_least_with
+    part-least_with_start
+    part-least_with_end
+    mul_least_with_2
+    shared_slice_read_least_with
+    least_with_requires
     returns)

@@ -4,58 +4,58 @@ use borrow.Author.Rules.{rules}
 use Rattle.purges.proofs.purge.Statement.{statement}
 use Rattle.purges.proofs.purge.Tie as tie
 
-nodes-of-requires : tie.Need-nodes-of-requires
-nodes-of-requires c κs = search rules
+nodes_of_requires : tie.Need-nodes-of-requires
+nodes_of_requires c κs = search rules
 
 same_length : tie.Need-same-length
 same_length c = search rules
 
 returns : tie.Need-returns
 returns c =
-    let at-nodes-of = c.before in
-    let start = at-nodes-of.before.before.before in
-    absent start.args.t.now start.requires start.args.node at-nodes-of.nodes-of.result at-nodes-of.nodes-of.ensures.0 c.if1.true
+    let at_nodes_of = c.before in
+    let start = at_nodes_of.before.before.before in
+    absent start.args.t.now start.requires start.args.node at_nodes_of.nodes_of.result at_nodes_of.nodes_of.ensures.0 c.if1.true
 
-held-of-requires : tie.Need-held-of-requires
-held-of-requires c κs = search rules
+held_of_requires : tie.Need-held-of-requires
+held_of_requires c κs = search rules
 
-cut-of-requires : tie.Need-cut-of-requires
-cut-of-requires c κs = search rules
+cut_of_requires : tie.Need-cut-of-requires
+cut_of_requires c κs = search rules
 
-sub-removed : tie.Need-overflow-sub-removed
-sub-removed c = search rules
+sub_removed : tie.Need-overflow-sub-removed
+sub_removed c = search rules
 
-cast-removed : tie.Need-overflow-cast-removed
-cast-removed c = search rules
+cast_removed : tie.Need-overflow-cast-removed
+cast_removed c = search rules
 
-cast-lags : tie.Need-overflow-cast-lags
-cast-lags c = search rules
+cast_lags : tie.Need-overflow-cast-lags
+cast_lags c = search rules
 
-same-length-2 : tie.Need-same-length-2
-same-length-2 c = search rules
+same_length_2 : tie.Need-same-length-2
+same_length_2 c = search rules
 
-returns-2 : tie.Need-returns-2
-returns-2 c =
-    let at-cut-of = c.before.before.before.before in
-    let at-held-of = at-cut-of.before.before in
-    let at-if1 = at-held-of.before.before in
-    let at-nodes-of = at-if1.before in
-    let start = at-nodes-of.before.before.before in
-    let cut = at-cut-of.cut_of.ensures in
-    done start.args.t.now start.requires start.args.node cut.dropped at-nodes-of.nodes-of.result at-held-of.held_of.result
-    at-cut-of.cut_of.result.at at-nodes-of.nodes-of.ensures.0 at-if1.if1.false at-held-of.held_of.ensures.0 cut.lags
+returns_2 : tie.Need-returns-2
+returns_2 c =
+    let at_cut_of = c.before.before.before.before in
+    let at_held_of = at_cut_of.before.before in
+    let at_if1 = at_held_of.before.before in
+    let at_nodes_of = at_if1.before in
+    let start = at_nodes_of.before.before.before in
+    let cut = at_cut_of.cut_of.ensures in
+    done start.args.t.now start.requires start.args.node cut.dropped at_nodes_of.nodes_of.result at_held_of.held_of.result
+    at_cut_of.cut_of.result.at at_nodes_of.nodes_of.ensures.0 at_if1.if1.false at_held_of.held_of.ensures.0 cut.lags
 
-pub purge-spec : {M : Type 1} → statement M
-purge-spec =
+pub purge_spec : {M : Type 1} → statement M
+purge_spec =
     tie.close
     (tie.spec
-    nodes-of-requires
+    nodes_of_requires
     same_length
     returns
-    held-of-requires
-    cut-of-requires
-    sub-removed
-    cast-removed
-    cast-lags
-    same-length-2
-    returns-2)
+    held_of_requires
+    cut_of_requires
+    sub_removed
+    cast_removed
+    cast_lags
+    same_length_2
+    returns_2)

@@ -2,64 +2,64 @@
 use Prim.Native.Nat.{◌-◌, ◌≤◌}
 use native.Mathlib.Omega.{arith}
 use lib.ListN.{length}
-use Rattle.columns.proofs.LowerLaws.{Low, low-none, low-more, low-all}
+use Rattle.columns.proofs.LowerLaws.{Low, low_none, low_more, low_all}
 use borrow.Author.Rules.{rules}
 use Rattle.purges.proofs.smallest.Statement.{statement}
 use Rattle.purges.proofs.smallest.Tie as tie
 
-abbrev invariant-loop : tie.invariant-loop
-invariant-loop row low₀ i₀ low i = (i ≤ length row) × Low row i low
+abbrev invariant_loop : tie.invariant_loop
+invariant_loop row low₀ i₀ low i = (i ≤ length row) × Low row i low
 
-abbrev decreases-loop : tie.decreases-loop
-decreases-loop row low₀ i₀ low i = length row - i
+abbrev decreases_loop : tie.decreases_loop
+decreases_loop row low₀ i₀ low i = length row - i
 
-shared-slice-read-low : tie.Need-shared-slice-read-low invariant-loop decreases-loop
-shared-slice-read-low c = search rules
+shared_slice_read_low : tie.Need-shared-slice-read-low invariant_loop decreases_loop
+shared_slice_read_low c = search rules
 
-loop-holds : tie.Need-loop-init invariant-loop decreases-loop
-loop-holds c = let start = c.before.before in (search rules, low-none start.args.row.now start.requires)
+loop_holds : tie.Need-loop-init invariant_loop decreases_loop
+loop_holds c = let start = c.before.before in (search rules, low_none start.args.row.now start.requires)
 
-mul-min-of : tie.Need-overflow-mul-min-of invariant-loop decreases-loop
-mul-min-of c = search rules
+mul_min_of : tie.Need-overflow-mul-min-of invariant_loop decreases_loop
+mul_min_of c = search rules
 
-shared-slice-read-min-of : tie.Need-shared-slice-read-min-of invariant-loop decreases-loop
-shared-slice-read-min-of c = search rules
+shared_slice_read_min_of : tie.Need-shared-slice-read-min-of invariant_loop decreases_loop
+shared_slice_read_min_of c = search rules
 
-min-of-requires : tie.Need-min-of-requires invariant-loop decreases-loop
-min-of-requires c κs = search rules
+min_of_requires : tie.Need-min-of-requires invariant_loop decreases_loop
+min_of_requires c κs = search rules
 
-add-i : tie.Need-overflow-add-i invariant-loop decreases-loop
-add-i c = search rules
+add_i : tie.Need-overflow-add-i invariant_loop decreases_loop
+add_i c = search rules
 
-loop-less : tie.Need-loop-smaller invariant-loop decreases-loop
-loop-less c = search rules
+loop_less : tie.Need-loop-smaller invariant_loop decreases_loop
+loop_less c = search rules
 
-loop-again : tie.Need-loop-preserved invariant-loop decreases-loop
-loop-again c =
-    let at-loop = c.before.before.before in
-    let start = at-loop.before.before.before in (
+loop_again : tie.Need-loop-preserved invariant_loop decreases_loop
+loop_again c =
+    let at_loop = c.before.before.before in
+    let start = at_loop.before.before.before in (
       omega arith,
-      low-more start.args.row.now at-loop.loop.i at-loop.loop.low c.min-of.result (omega arith) c.min-of.ensures at-loop.loop.invariant.1,
+      low_more start.args.row.now at_loop.loop.i at_loop.loop.low c.min-of.result (omega arith) c.min-of.ensures at_loop.loop.invariant.1,
     )
 
-returns : tie.Need-returns invariant-loop decreases-loop
+returns : tie.Need-returns invariant_loop decreases_loop
 returns c =
-    let at-loop = c.before in
-    let start = at-loop.before.before.before in
-    low-all start.args.row.now at-loop.loop.i at-loop.loop.low start.requires (omega arith) at-loop.loop.invariant.1
+    let at_loop = c.before in
+    let start = at_loop.before.before.before in
+    low_all start.args.row.now at_loop.loop.i at_loop.loop.low start.requires (omega arith) at_loop.loop.invariant.1
 
-pub smallest-spec : {M : Type 1} → statement M
-smallest-spec =
+pub smallest_spec : {M : Type 1} → statement M
+smallest_spec =
     tie.close
     (tie.spec
-    invariant-loop
-    decreases-loop
-    shared-slice-read-low
-    loop-holds
-    mul-min-of
-    shared-slice-read-min-of
-    min-of-requires
-    add-i
-    loop-less
-    loop-again
+    invariant_loop
+    decreases_loop
+    shared_slice_read_low
+    loop_holds
+    mul_min_of
+    shared_slice_read_min_of
+    min_of_requires
+    add_i
+    loop_less
+    loop_again
     returns)

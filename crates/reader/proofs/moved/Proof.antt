@@ -83,14 +83,14 @@ use denote.Triple.Table.{entered, cited}
 use denote.Triple.Walked.{says, Stays, stay_none, walk_of, Goes-none, Walks, ends_at, walked, walk_Meets}
 use denote.Exit.{yes}
 use denote.Triple.Clauses.{ensured, lasts}
-use Rattle.lineparts.specs.Reached.{positionAt}
+use Rattle.lineparts.specs.Reached.{position_at}
 use Rattle.reader.specs.declared.Reader.{Reader}
 use Rattle.reader.proofs.Reader.TheLaws as T'
 use Rattle.reader.proofs.Holding.{Row, machine, D, L, fields, Own, three, two, OnThree, OnTwo, twice, apart}
 use Rattle.lineparts.specs.contracts.position_at as at
-use Rattle.lineparts.proofs.position_at.Symbol as at-def
+use Rattle.lineparts.proofs.position_at.Symbol as at_def
 use Rattle.lineparts.proofs.position_at.Symbol.{name as #lineparts·position-at}
-use Rattle.lineparts.proofs.position_at.Met as at-thm
+use Rattle.lineparts.proofs.position_at.Met as at_thm
 use Rattle.reader.specs.contracts.moved.Key.{name as #reader·moved}
 use Rattle.reader.specs.contracts.moved as moved
 use Rattle.reader.proofs.moved.Statement as stated
@@ -113,7 +113,7 @@ module _ {M : Type 1} {𝓤 : Ura M} (𝓛 : Logic 𝓤) (mem : Memory → SProp
 
   -- what is known of the result
   abbrev Said : ℕ → Type 0
-  Said r = r ≡ positionAt d.journal.now d.at n
+  Said r = r ≡ position_at d.journal.now d.at n
 
   -- what the callee is passed and asks
   abbrev to : (PositionAt 𝓛 mem run).Ghost
@@ -179,9 +179,9 @@ module _ {M : Type 1} {𝓤 : Ura M} (𝓛 : Logic 𝓤) (mem : Memory → SProp
 module _ {M : Type 1} {𝓤 : Ura M} (𝓛 : Logic 𝓤) (mem : Memory → SProp 𝓤) (run : Routine → Fun 𝓤) where
   open 𝓛 use {H}
 
-  moved-walks : (C : Calls 𝓤 H) (Λ : Loops 𝓤 H) → FmC 𝓤 H 𝓛.laws C → Triple 𝓤 (C #lineparts·position-at) (PositionAt 𝓛 mem run)
+  moved_walks : (C : Calls 𝓤 H) (Λ : Loops 𝓤 H) → FmC 𝓤 H 𝓛.laws C → Triple 𝓤 (C #lineparts·position-at) (PositionAt 𝓛 mem run)
       → Walks 𝓛 moved.ended stayed (WpFn 𝓤 H C Λ code.function) (moved.clauses 𝓛 mem run)
-  moved-walks C Λ fm known =
+  moved_walks C Λ fm known =
       walked 𝓛 moved.ended stayed (moved.clauses 𝓛 mem run) (WpFn 𝓤 H C Λ code.function)
       (λ κs. (LL.vals (D κs.0) (L κs.0), (uint_vals w64, tt)))
       (λ κs. (LL.tells (D κs.0) (L κs.0), (uint_Tells w64, tt)))
@@ -189,20 +189,20 @@ module _ {M : Type 1} {𝓤 : Ura M} (𝓛 : Logic 𝓤) (mem : Memory → SProp
       (walk 𝓛 mem run κs.0 qs.0 a.0 a.1.0 are.1.0.1 C Λ fm known
       ((LL.lawful (D κs.0) (L κs.0) 𝓛).typed a.0 _ are.0).0))
 
-moved-meets : {M : Type 1} {𝓤 : Ura M} (𝓛 : Logic 𝓤) (mem : Memory → SProp 𝓤) (run : Routine → Fun 𝓤) (𝓣 : Tables 𝓤 𝓛.H)
+moved_meets : {M : Type 1} {𝓤 : Ura M} (𝓛 : Logic 𝓤) (mem : Memory → SProp 𝓤) (run : Routine → Fun 𝓤) (𝓣 : Tables 𝓤 𝓛.H)
     → Triple 𝓤 (𝓣.C #lineparts·position-at) (PositionAt 𝓛 mem run)
     → Meets 𝓛 moved.signature (WpFn 𝓤 𝓛.H 𝓣.C 𝓣.Λ code.function) (moved.spec 𝓛 mem run)
-moved-meets {𝓤 = 𝓤} 𝓛 mem run 𝓣 known =
+moved_meets {𝓤 = 𝓤} 𝓛 mem run 𝓣 known =
     walk_Meets 𝓛 moved.ended stayed
     (Goes-none 𝓛 1 Row yes (λ κs x f. refl), (Goes-none 𝓛 1 (λ _. usize) yes (λ κs x f. refl), tt))
     (moved.clauses 𝓛 mem run) (WpFn 𝓤 𝓛.H 𝓣.C 𝓣.Λ code.function) (WpFn-mono 𝓤 𝓛.H 𝓛.laws 𝓣 code.function)
-    (moved-walks 𝓛 mem run 𝓣.C 𝓣.Λ (fm_of 𝓤 𝓛.H 𝓛.laws 𝓣) known)
+    (moved_walks 𝓛 mem run 𝓣.C 𝓣.Λ (fm_of 𝓤 𝓛.H 𝓛.laws 𝓣) known)
 
-pub moved-spec : {M : Type 1} → stated.statement M
+pub moved_spec : {M : Type 1} → stated.statement M
 unfolding code.routine tables_of
-moved-spec 𝓤 𝓛 𝓜 𝓡 =
+moved_spec 𝓤 𝓛 𝓜 𝓡 =
     entered 𝓤 𝓛.H (triple_of 𝓛 moved.signature (moved.spec 𝓛 𝓜.mem 𝓡.run))
     (tables 𝓤 𝓛.H 𝓜 𝓡 code.env).C (tables 𝓤 𝓛.H 𝓜 𝓡 code.env).Λ #reader·moved code.function (code.unfolded 𝓤 𝓛.H 𝓜 𝓡)
-    (moved-meets 𝓛 𝓜.mem 𝓡.run (tables_of 𝓤 𝓛.H 𝓜 (tables 𝓤 𝓛.H 𝓜 𝓡 code.env))
-    (cited 𝓤 𝓛.H (PositionAt 𝓛 𝓜.mem 𝓡.run) 𝓜 𝓡 code.env #lineparts·position-at at-def.routine code.calls-lineparts::position-at
-    (at-thm.met 𝓤 𝓛 𝓜 𝓡)))
+    (moved_meets 𝓛 𝓜.mem 𝓡.run (tables_of 𝓤 𝓛.H 𝓜 (tables 𝓤 𝓛.H 𝓜 𝓡 code.env))
+    (cited 𝓤 𝓛.H (PositionAt 𝓛 𝓜.mem 𝓡.run) 𝓜 𝓡 code.env #lineparts·position-at at_def.routine code.calls-lineparts::position-at
+    (at_thm.met 𝓤 𝓛 𝓜 𝓡)))

@@ -64,9 +64,9 @@ use Rattle.reader.specs.declared.Reader.{Reader}
 use Rattle.reader.proofs.Reader.TheLaws as T'
 use Rattle.reader.proofs.Holding.{Row, machine, D, L, Own, three, two, OnThree, OnTwo, apart}
 use Rattle.journal.specs.contracts.next_at as at
-use Rattle.journal.proofs.next_at.Symbol as at-def
+use Rattle.journal.proofs.next_at.Symbol as at_def
 use Rattle.journal.proofs.next_at.Symbol.{name as #journal·next-at}
-use Rattle.journal.proofs.next_at.Met as at-thm
+use Rattle.journal.proofs.next_at.Met as at_thm
 use Rattle.reader.specs.contracts.next.Key.{name as #reader·next}
 use Rattle.reader.specs.contracts.next as next
 use Rattle.reader.proofs.next.Statement as stated
@@ -142,9 +142,9 @@ module _ {M : Type 1} {𝓤 : Ura M} (𝓛 : Logic 𝓤) (mem : Memory → SProp
 module _ {M : Type 1} {𝓤 : Ura M} (𝓛 : Logic 𝓤) (mem : Memory → SProp 𝓤) (run : Routine → Fun 𝓤) where
   open 𝓛 use {H}
 
-  next-walks : (C : Calls 𝓤 H) (Λ : Loops 𝓤 H) → FmC 𝓤 H 𝓛.laws C → Triple 𝓤 (C #journal·next-at) (NextAt 𝓛 mem run)
+  next_walks : (C : Calls 𝓤 H) (Λ : Loops 𝓤 H) → FmC 𝓤 H 𝓛.laws C → Triple 𝓤 (C #journal·next-at) (NextAt 𝓛 mem run)
       → Walks 𝓛 next.ended stayed (WpFn 𝓤 H C Λ code.function) (next.clauses 𝓛 mem run)
-  next-walks C Λ fm known =
+  next_walks C Λ fm known =
       walked 𝓛 next.ended stayed (next.clauses 𝓛 mem run) (WpFn 𝓤 H C Λ code.function)
       (λ κs. (LL.vals (D κs.0) (L κs.0), (uint_vals w64, tt)))
       (λ κs. (LL.tells (D κs.0) (L κs.0), (uint_Tells w64, tt)))
@@ -152,19 +152,19 @@ module _ {M : Type 1} {𝓤 : Ura M} (𝓛 : Logic 𝓤) (mem : Memory → SProp
       (walk 𝓛 mem run κs.0 qs.0 a.0 a.1.0 are.1.0.1 C Λ fm known
       ((LL.lawful (D κs.0) (L κs.0) 𝓛).typed a.0 _ are.0).0))
 
-next-meets : {M : Type 1} {𝓤 : Ura M} (𝓛 : Logic 𝓤) (mem : Memory → SProp 𝓤) (run : Routine → Fun 𝓤) (𝓣 : Tables 𝓤 𝓛.H)
+next_meets : {M : Type 1} {𝓤 : Ura M} (𝓛 : Logic 𝓤) (mem : Memory → SProp 𝓤) (run : Routine → Fun 𝓤) (𝓣 : Tables 𝓤 𝓛.H)
     → Triple 𝓤 (𝓣.C #journal·next-at) (NextAt 𝓛 mem run)
     → Meets 𝓛 next.signature (WpFn 𝓤 𝓛.H 𝓣.C 𝓣.Λ code.function) (next.spec 𝓛 mem run)
-next-meets {𝓤 = 𝓤} 𝓛 mem run 𝓣 known =
+next_meets {𝓤 = 𝓤} 𝓛 mem run 𝓣 known =
     walk_Meets 𝓛 next.ended stayed
     (Goes-none 𝓛 1 Row yes (λ κs x f. refl), (Goes-none 𝓛 1 (λ _. usize) yes (λ κs x f. refl), tt))
     (next.clauses 𝓛 mem run) (WpFn 𝓤 𝓛.H 𝓣.C 𝓣.Λ code.function) (WpFn-mono 𝓤 𝓛.H 𝓛.laws 𝓣 code.function)
-    (next-walks 𝓛 mem run 𝓣.C 𝓣.Λ (fm_of 𝓤 𝓛.H 𝓛.laws 𝓣) known)
+    (next_walks 𝓛 mem run 𝓣.C 𝓣.Λ (fm_of 𝓤 𝓛.H 𝓛.laws 𝓣) known)
 
-pub next-spec : {M : Type 1} → stated.statement M
+pub next_spec : {M : Type 1} → stated.statement M
 unfolding code.routine tables_of
-next-spec 𝓤 𝓛 𝓜 𝓡 =
+next_spec 𝓤 𝓛 𝓜 𝓡 =
     entered 𝓤 𝓛.H (triple_of 𝓛 next.signature (next.spec 𝓛 𝓜.mem 𝓡.run))
     (tables 𝓤 𝓛.H 𝓜 𝓡 code.env).C (tables 𝓤 𝓛.H 𝓜 𝓡 code.env).Λ #reader·next code.function (code.unfolded 𝓤 𝓛.H 𝓜 𝓡)
-    (next-meets 𝓛 𝓜.mem 𝓡.run (tables_of 𝓤 𝓛.H 𝓜 (tables 𝓤 𝓛.H 𝓜 𝓡 code.env))
-    (cited 𝓤 𝓛.H (NextAt 𝓛 𝓜.mem 𝓡.run) 𝓜 𝓡 code.env #journal·next-at at-def.routine code.calls-journal::next-at (at-thm.met 𝓤 𝓛 𝓜 𝓡)))
+    (next_meets 𝓛 𝓜.mem 𝓡.run (tables_of 𝓤 𝓛.H 𝓜 (tables 𝓤 𝓛.H 𝓜 𝓡 code.env))
+    (cited 𝓤 𝓛.H (NextAt 𝓛 𝓜.mem 𝓡.run) 𝓜 𝓡 code.env #journal·next-at at_def.routine code.calls-journal::next-at (at_thm.met 𝓤 𝓛 𝓜 𝓡)))

@@ -86,15 +86,15 @@ use Rattle.reader.specs.Standing.{Stands}
 use Rattle.reader.specs.contracts.Reader as T
 use Rattle.reader.proofs.Reader.TheLaws as T'
 use Rattle.reader.proofs.Holding.{Row, slice, OwnSlice, three, OnThree}
-use Rattle.reader.proofs.Making.{New, to-new, goes-new, new-said}
+use Rattle.reader.proofs.Making.{New, to_new, goes_new, new_said}
 use Rattle.reader.specs.contracts.new as new
-use Rattle.reader.proofs.new.Symbol as new-def
+use Rattle.reader.proofs.new.Symbol as new_def
 use Rattle.reader.proofs.new.Symbol.{name as #reader·new}
-use Rattle.reader.proofs.new.Met as new-thm
+use Rattle.reader.proofs.new.Met as new_thm
 use Rattle.reader.specs.contracts.next as next
-use Rattle.reader.proofs.next.Symbol as next-def
+use Rattle.reader.proofs.next.Symbol as next_def
 use Rattle.reader.proofs.next.Symbol.{name as #reader·next}
-use Rattle.reader.proofs.next.Met as next-thm
+use Rattle.reader.proofs.next.Met as next_thm
 use Rattle.reader.specs.contracts.next_from.Key.{name as #reader·next-from}
 use Rattle.reader.specs.contracts.next_from as own
 use Rattle.reader.proofs.next_from.Statement as stated
@@ -143,7 +143,7 @@ module _ {M : Type 1} {𝓤 : Ura M} (𝓛 : Logic 𝓤) (mem : Memory → SProp
       owned ! usize (Is usize) (uint_Makes 𝓛 w64) i _ (refl, iok) $ fjoin ! $ move ! (2 ∷ 0 ∷ []) $ fjoin ! $ frame ! $ done !
 
   module _ (C : Calls 𝓤 H) (Λ : Loops 𝓤 H) (fm : FmC 𝓤 H 𝓛.laws C)
-      (known-new : Triple 𝓤 (C #reader·new) (New 𝓛 mem run)) (known_next : Triple 𝓤 (C #reader·next) (Next 𝓛 mem run)) where
+      (known_new : Triple 𝓤 (C #reader·new) (New 𝓛 mem run)) (known_next : Triple 𝓤 (C #reader·next) (Next 𝓛 mem run)) where
     walk : Is (ShrSlice (named 0) κ u8) s (slice s ∷ [])
         → ent 𝓤 (OnThree 𝓛 κ q s i n) (WpFn 𝓤 H C Λ code.function (slice s ∷ vint w64 i ∷ vint w64 n ∷ []) Post)
     walk p =
@@ -151,13 +151,13 @@ module _ {M : Type 1} {𝓤 : Ura M} (𝓛 : Logic 𝓤) (mem : Memory → SProp
         alloc1 ! (λ l₀. alloc1 ! (λ l₁. alloc1 ! (λ l₂. alloc1 ! (λ l₃. alloc1 ! (λ l₄. alloc0 ! $ params1 ! $
         pass1 ! (init ! 6 refl ((shr_slice_Lawful 𝓛 (named 0) κ u8).typed s (slice s ∷ []) p).0) $
         pass1 ! (init ! 4 refl (tt, record { fits = iok })) $ pass1 ! (init ! 2 refl (tt, record { fits = nok })) $ pass0 ! $
-        move ! (10 ∷ []) $ use1 𝓛 (raw ((New 𝓛 mem run).pre (to-new 𝓛 mem run κ q s i n iok)) ⊛ ‵ (OwnSlice κ s))
-        (goes-new 𝓛 mem run κ q s i n iok) $ split ! $
-        calls_at ! fm (New 𝓛 mem run) known-new (to-new 𝓛 mem run κ q s i n iok)
+        move ! (10 ∷ []) $ use1 𝓛 (raw ((New 𝓛 mem run).pre (to_new 𝓛 mem run κ q s i n iok)) ⊛ ‵ (OwnSlice κ s))
+        (goes_new 𝓛 mem run κ q s i n iok) $ split ! $
+        calls_at ! fm (New 𝓛 mem run) known_new (to_new 𝓛 mem run κ q s i n iok)
         (and_then ! (load ! (from ! (stop !)) (look ! 8 refl)) (and_then ! (load ! (from ! (stop !)) (look ! 6 refl)) (no_more !))) (λ u.
         use1 𝓛 (later (some (λ (r : Reader). ((‵ (flft κ q) ⊛ ‵ ftrue) ⊛ ‵ ((Row (κ, tt)).own r (u ∷ [])))
         ⊛ raw (ensured 𝓛 new.ended (new.clauses 𝓛 mem run) (κ, tt) (s, (i, tt)) tt r)))) (id⊢ 𝓤 _) $ await ! tt $ pick ! (λ r.
-        split ! $ move ! (1 ∷ []) $ use1 𝓛 (raw (fact 𝓤 (Stands s i r))) (new-said 𝓛 mem run κ q s i n iok r) $
+        split ! $ move ! (1 ∷ []) $ use1 𝓛 (raw (fact 𝓤 (Stands s i r))) (new_said 𝓛 mem run κ q s i n iok r) $
         heard ! (Stands s i r) (λ e. split ! $ move ! (1 ∷ []) $
         -- [what the struct owns; the token; what s owns; room for the struct; …; the other locals, the last first]
         peeks ! (Row (κ, tt)) (Is (Row (κ, tt))) (shows 𝓛 (Row (κ, tt))) r (u ∷ []) (λ is.
@@ -180,20 +180,20 @@ module _ {M : Type 1} {𝓤 : Ura M} (𝓛 : Logic 𝓤) (mem : Memory → SProp
 module _ {M : Type 1} {𝓤 : Ura M} (𝓛 : Logic 𝓤) (mem : Memory → SProp 𝓤) (run : Routine → Fun 𝓤) where
   open 𝓛 use {H}
 
-  next-from-walks : (C : Calls 𝓤 H) (Λ : Loops 𝓤 H) → FmC 𝓤 H 𝓛.laws C → Triple 𝓤 (C #reader·new) (New 𝓛 mem run)
+  next_from_walks : (C : Calls 𝓤 H) (Λ : Loops 𝓤 H) → FmC 𝓤 H 𝓛.laws C → Triple 𝓤 (C #reader·new) (New 𝓛 mem run)
       → Triple 𝓤 (C #reader·next) (Next 𝓛 mem run)
       → Walks 𝓛 own.ended stayed (WpFn 𝓤 H C Λ code.function) (own.clauses 𝓛 mem run)
-  next-from-walks C Λ fm known-new known_next =
+  next_from_walks C Λ fm known_new known_next =
       walked 𝓛 own.ended stayed (own.clauses 𝓛 mem run) (WpFn 𝓤 H C Λ code.function)
       (λ κs. (shr_slice_vals, (uint_vals w64, (uint_vals w64, tt))))
       (λ κs. (shr_slice_Tells (named 0) κs.0 u8, (uint_Tells w64, (uint_Tells w64, tt))))
       (λ κs qs bounds a g are. via 𝓤 _ (fst∗ 𝓤 _ (emp 𝓤))
-      (walk 𝓛 mem run κs.0 qs.0 a.0 a.1.0 a.1.1.0 are.1.0.1 are.1.1.0.1 C Λ fm known-new known_next are.0))
+      (walk 𝓛 mem run κs.0 qs.0 a.0 a.1.0 a.1.1.0 are.1.0.1 are.1.1.0.1 C Λ fm known_new known_next are.0))
 
-next-from-meets : {M : Type 1} {𝓤 : Ura M} (𝓛 : Logic 𝓤) (mem : Memory → SProp 𝓤) (run : Routine → Fun 𝓤) (𝓣 : Tables 𝓤 𝓛.H)
+next_from_meets : {M : Type 1} {𝓤 : Ura M} (𝓛 : Logic 𝓤) (mem : Memory → SProp 𝓤) (run : Routine → Fun 𝓤) (𝓣 : Tables 𝓤 𝓛.H)
     → Triple 𝓤 (𝓣.C #reader·new) (New 𝓛 mem run) → Triple 𝓤 (𝓣.C #reader·next) (Next 𝓛 mem run)
     → Meets 𝓛 own.signature (WpFn 𝓤 𝓛.H 𝓣.C 𝓣.Λ code.function) (own.spec 𝓛 mem run)
-next-from-meets {𝓤 = 𝓤} 𝓛 mem run 𝓣 known-new known_next =
+next_from_meets {𝓤 = 𝓤} 𝓛 mem run 𝓣 known_new known_next =
     walk_Meets 𝓛 own.ended stayed (
       Goes-none_slice 𝓛 1 (0 ∷ []) tt (plain (λ _. u8)) yes,
       (
@@ -202,13 +202,13 @@ next-from-meets {𝓤 = 𝓤} 𝓛 mem run 𝓣 known-new known_next =
       ),
     )
     (own.clauses 𝓛 mem run) (WpFn 𝓤 𝓛.H 𝓣.C 𝓣.Λ code.function) (WpFn-mono 𝓤 𝓛.H 𝓛.laws 𝓣 code.function)
-    (next-from-walks 𝓛 mem run 𝓣.C 𝓣.Λ (fm_of 𝓤 𝓛.H 𝓛.laws 𝓣) known-new known_next)
+    (next_from_walks 𝓛 mem run 𝓣.C 𝓣.Λ (fm_of 𝓤 𝓛.H 𝓛.laws 𝓣) known_new known_next)
 
-pub next-from-spec : {M : Type 1} → stated.statement M
+pub next_from_spec : {M : Type 1} → stated.statement M
 unfolding code.routine tables_of
-next-from-spec 𝓤 𝓛 𝓜 𝓡 =
+next_from_spec 𝓤 𝓛 𝓜 𝓡 =
     entered 𝓤 𝓛.H (triple_of 𝓛 own.signature (own.spec 𝓛 𝓜.mem 𝓡.run))
     (tables 𝓤 𝓛.H 𝓜 𝓡 code.env).C (tables 𝓤 𝓛.H 𝓜 𝓡 code.env).Λ #reader·next-from code.function (code.unfolded 𝓤 𝓛.H 𝓜 𝓡)
-    (next-from-meets 𝓛 𝓜.mem 𝓡.run (tables_of 𝓤 𝓛.H 𝓜 (tables 𝓤 𝓛.H 𝓜 𝓡 code.env))
-    (cited 𝓤 𝓛.H (New 𝓛 𝓜.mem 𝓡.run) 𝓜 𝓡 code.env #reader·new new-def.routine code.calls-reader::new (new-thm.met 𝓤 𝓛 𝓜 𝓡))
-    (cited 𝓤 𝓛.H (Next 𝓛 𝓜.mem 𝓡.run) 𝓜 𝓡 code.env #reader·next next-def.routine code.calls-reader::next (next-thm.met 𝓤 𝓛 𝓜 𝓡)))
+    (next_from_meets 𝓛 𝓜.mem 𝓡.run (tables_of 𝓤 𝓛.H 𝓜 (tables 𝓤 𝓛.H 𝓜 𝓡 code.env))
+    (cited 𝓤 𝓛.H (New 𝓛 𝓜.mem 𝓡.run) 𝓜 𝓡 code.env #reader·new new_def.routine code.calls-reader::new (new_thm.met 𝓤 𝓛 𝓜 𝓡))
+    (cited 𝓤 𝓛.H (Next 𝓛 𝓜.mem 𝓡.run) 𝓜 𝓡 code.env #reader·next next_def.routine code.calls-reader::next (next_thm.met 𝓤 𝓛 𝓜 𝓡)))

@@ -57,14 +57,14 @@ use denote.Triple.Walked.{says, Stays, stay_none, walk_of, Goes-none, Walks, end
 use denote.Exit.{yes}
 use denote.Triple.Clauses.{ensured, lasts}
 use Rattle.finder.specs.Parts.{Part}
-use Rattle.lineparts.specs.Reached.{partAt}
+use Rattle.lineparts.specs.Reached.{part_at}
 use Rattle.reader.specs.declared.Reader.{Reader}
 use Rattle.reader.proofs.Reader.TheLaws as T'
 use Rattle.reader.proofs.Holding.{Row, machine, D, L, Own, three, two, OnThree, OnTwo, apart}
 use Rattle.lineparts.specs.contracts.part_at as at
-use Rattle.lineparts.proofs.part_at.Symbol as at-def
+use Rattle.lineparts.proofs.part_at.Symbol as at_def
 use Rattle.lineparts.proofs.part_at.Symbol.{name as #lineparts·part-at}
-use Rattle.lineparts.proofs.part_at.Met as at-thm
+use Rattle.lineparts.proofs.part_at.Met as at_thm
 use Rattle.reader.specs.contracts.part.Key.{name as #reader·part}
 use Rattle.reader.specs.contracts.part as part
 use Rattle.reader.proofs.part.Statement as stated
@@ -87,7 +87,7 @@ module _ {M : Type 1} {𝓤 : Ura M} (𝓛 : Logic 𝓤) (mem : Memory → SProp
 
   -- what is known of the result
   abbrev Said : Bor (List ℕ) → Type 0
-  Said r = Part d.journal d.at (partAt d.journal.now d.at n) r
+  Said r = Part d.journal d.at (part_at d.journal.now d.at n) r
 
   -- what the callee is passed and asks
   abbrev to : (PartAt 𝓛 mem run).Ghost
@@ -141,9 +141,9 @@ module _ {M : Type 1} {𝓤 : Ura M} (𝓛 : Logic 𝓤) (mem : Memory → SProp
 module _ {M : Type 1} {𝓤 : Ura M} (𝓛 : Logic 𝓤) (mem : Memory → SProp 𝓤) (run : Routine → Fun 𝓤) where
   open 𝓛 use {H}
 
-  part-walks : (C : Calls 𝓤 H) (Λ : Loops 𝓤 H) → FmC 𝓤 H 𝓛.laws C → Triple 𝓤 (C #lineparts·part-at) (PartAt 𝓛 mem run)
+  part_walks : (C : Calls 𝓤 H) (Λ : Loops 𝓤 H) → FmC 𝓤 H 𝓛.laws C → Triple 𝓤 (C #lineparts·part-at) (PartAt 𝓛 mem run)
       → Walks 𝓛 part.ended stayed (WpFn 𝓤 H C Λ code.function) (part.clauses 𝓛 mem run)
-  part-walks C Λ fm known =
+  part_walks C Λ fm known =
       walked 𝓛 part.ended stayed (part.clauses 𝓛 mem run) (WpFn 𝓤 H C Λ code.function)
       (λ κs. (LL.vals (D κs.0) (L κs.0), (uint_vals w64, tt)))
       (λ κs. (LL.tells (D κs.0) (L κs.0), (uint_Tells w64, tt)))
@@ -158,12 +158,12 @@ part_meets {𝓤 = 𝓤} 𝓛 mem run 𝓣 known =
     walk_Meets 𝓛 part.ended stayed
     (Goes-none 𝓛 1 Row yes (λ κs x f. refl), (Goes-none 𝓛 1 (λ _. usize) yes (λ κs x f. refl), tt))
     (part.clauses 𝓛 mem run) (WpFn 𝓤 𝓛.H 𝓣.C 𝓣.Λ code.function) (WpFn-mono 𝓤 𝓛.H 𝓛.laws 𝓣 code.function)
-    (part-walks 𝓛 mem run 𝓣.C 𝓣.Λ (fm_of 𝓤 𝓛.H 𝓛.laws 𝓣) known)
+    (part_walks 𝓛 mem run 𝓣.C 𝓣.Λ (fm_of 𝓤 𝓛.H 𝓛.laws 𝓣) known)
 
-pub part-spec : {M : Type 1} → stated.statement M
+pub part_spec : {M : Type 1} → stated.statement M
 unfolding code.routine tables_of
-part-spec 𝓤 𝓛 𝓜 𝓡 =
+part_spec 𝓤 𝓛 𝓜 𝓡 =
     entered 𝓤 𝓛.H (triple_of 𝓛 part.signature (part.spec 𝓛 𝓜.mem 𝓡.run))
     (tables 𝓤 𝓛.H 𝓜 𝓡 code.env).C (tables 𝓤 𝓛.H 𝓜 𝓡 code.env).Λ #reader·part code.function (code.unfolded 𝓤 𝓛.H 𝓜 𝓡)
     (part_meets 𝓛 𝓜.mem 𝓡.run (tables_of 𝓤 𝓛.H 𝓜 (tables 𝓤 𝓛.H 𝓜 𝓡 code.env))
-    (cited 𝓤 𝓛.H (PartAt 𝓛 𝓜.mem 𝓡.run) 𝓜 𝓡 code.env #lineparts·part-at at-def.routine code.calls-lineparts::part-at (at-thm.met 𝓤 𝓛 𝓜 𝓡)))
+    (cited 𝓤 𝓛.H (PartAt 𝓛 𝓜.mem 𝓡.run) 𝓜 𝓡 code.env #lineparts·part-at at_def.routine code.calls-lineparts::part-at (at_thm.met 𝓤 𝓛 𝓜 𝓡)))

@@ -84,21 +84,21 @@ use denote.Triple.Table.{entered, cited}
 use denote.Triple.Walked.{says, Stays, stay_none, stay_none_slice, walk_of, Goes-none, Goes-none_slice, Walks, ends_at, walked, walk_Meets}
 use denote.Exit.{yes}
 use denote.Triple.Clauses.{ensured, lasts}
-use Rattle.lineparts.specs.Reached.{positionAt}
+use Rattle.lineparts.specs.Reached.{position_at}
 use Rattle.reader.specs.declared.Reader.{Reader}
 use Rattle.reader.specs.Standing.{Stands}
 use Rattle.reader.specs.contracts.Reader as T
 use Rattle.reader.proofs.Reader.TheLaws as T'
 use Rattle.reader.proofs.Holding.{Row, machine, slice, D, L, OwnSlice, three, OnThree}
-use Rattle.reader.proofs.Making.{New, to-new, goes-new, new-said}
+use Rattle.reader.proofs.Making.{New, to_new, goes_new, new_said}
 use Rattle.reader.specs.contracts.new as new
-use Rattle.reader.proofs.new.Symbol as new-def
+use Rattle.reader.proofs.new.Symbol as new_def
 use Rattle.reader.proofs.new.Symbol.{name as #reader·new}
-use Rattle.reader.proofs.new.Met as new-thm
+use Rattle.reader.proofs.new.Met as new_thm
 use Rattle.reader.specs.contracts.moved as moved
-use Rattle.reader.proofs.moved.Symbol as moved-def
+use Rattle.reader.proofs.moved.Symbol as moved_def
 use Rattle.reader.proofs.moved.Symbol.{name as #reader·moved}
-use Rattle.reader.proofs.moved.Met as moved-thm
+use Rattle.reader.proofs.moved.Met as moved_thm
 use Rattle.reader.specs.contracts.place_from.Key.{name as #reader·place-from}
 use Rattle.reader.specs.contracts.place_from as place_from
 use Rattle.reader.proofs.place_from.Statement as stated
@@ -120,7 +120,7 @@ module _ {M : Type 1} {𝓤 : Ura M} (𝓛 : Logic 𝓤) (mem : Memory → SProp
 
   -- what is known of the result of the call on the struct r, which has the machine value u
   abbrev Said : Reader → Reader → Type 0
-  Said r t = Stands r.journal (positionAt r.journal.now r.at n) t
+  Said r t = Stands r.journal (position_at r.journal.now r.at n) t
 
   abbrev to : Reader → Val → (Moved 𝓛 mem run).Ghost
   to r u = (((κ, tt), (q, tt), tt, (r, (n, tt)), (u ∷ [], (vint w64 n ∷ [], tt))), tt)
@@ -141,7 +141,7 @@ module _ {M : Type 1} {𝓤 : Ura M} (𝓛 : Logic 𝓤) (mem : Memory → SProp
       ((LL.lawful (T.the_type (record { mir = erased; lft = κ })) (T'.the_laws (record { mir = erased; lft = κ })) 𝓛).typed t (machine t ∷ [])
       (subst (λ (l : List Val). Is (Row (κ, tt)) t l) (LL.tells (D κ) (L κ) t vs is) is)).0
 
-  exits : (k : ℕ) → k < 2 ^ 64 → k ≡ positionAt s.now i n
+  exits : (k : ℕ) → k < 2 ^ 64 → k ≡ position_at s.now i n
       → ent 𝓤 (⋆ 𝓛 ((‵ (flft κ q) ⊛ ‵ ftrue) ∷ ‵ (OwnSlice κ s) ∷ [])) (Post (vint w64 k))
   exits k fits e =
       qed 𝓛 ((‵ (flft κ q) ⊛ ‵ ftrue) ∷ ‵ (OwnSlice κ s) ∷ []) ∵
@@ -154,7 +154,7 @@ module _ {M : Type 1} {𝓤 : Ura M} (𝓛 : Logic 𝓤) (mem : Memory → SProp
       owned ! usize (Is usize) (uint_Makes 𝓛 w64) k _ (refl, fits) $ done !
 
   module _ (C : Calls 𝓤 H) (Λ : Loops 𝓤 H) (fm : FmC 𝓤 H 𝓛.laws C)
-      (known-new : Triple 𝓤 (C #reader·new) (New 𝓛 mem run)) (known-moved : Triple 𝓤 (C #reader·moved) (Moved 𝓛 mem run)) where
+      (known_new : Triple 𝓤 (C #reader·new) (New 𝓛 mem run)) (known_moved : Triple 𝓤 (C #reader·moved) (Moved 𝓛 mem run)) where
     walk : Is (ShrSlice (named 0) κ u8) s (slice s ∷ [])
         → ent 𝓤 (OnThree 𝓛 κ q s i n) (WpFn 𝓤 H C Λ code.function (slice s ∷ vint w64 i ∷ vint w64 n ∷ []) Post)
     walk p =
@@ -162,20 +162,20 @@ module _ {M : Type 1} {𝓤 : Ura M} (𝓛 : Logic 𝓤) (mem : Memory → SProp
         alloc1 ! (λ l₀. alloc1 ! (λ l₁. alloc1 ! (λ l₂. alloc1 ! (λ l₃. alloc1 ! (λ l₄. alloc1 ! (λ l₅. alloc0 ! $ params1 ! $
         pass1 ! (init ! 8 refl ((shr_slice_Lawful 𝓛 (named 0) κ u8).typed s (slice s ∷ []) p).0) $
         pass1 ! (init ! 6 refl (tt, record { fits = iok })) $ pass1 ! (init ! 4 refl (tt, record { fits = nok })) $ pass0 ! $
-        move ! (12 ∷ []) $ use1 𝓛 (raw ((New 𝓛 mem run).pre (to-new 𝓛 mem run κ q s i n iok)) ⊛ ‵ (OwnSlice κ s))
-        (goes-new 𝓛 mem run κ q s i n iok) $ split ! $
-        calls_at ! fm (New 𝓛 mem run) known-new (to-new 𝓛 mem run κ q s i n iok)
+        move ! (12 ∷ []) $ use1 𝓛 (raw ((New 𝓛 mem run).pre (to_new 𝓛 mem run κ q s i n iok)) ⊛ ‵ (OwnSlice κ s))
+        (goes_new 𝓛 mem run κ q s i n iok) $ split ! $
+        calls_at ! fm (New 𝓛 mem run) known_new (to_new 𝓛 mem run κ q s i n iok)
         (and_then ! (load ! (from ! (stop !)) (look ! 10 refl)) (and_then ! (load ! (from ! (stop !)) (look ! 8 refl)) (no_more !))) (λ u.
         use1 𝓛 (later (some (λ (r : Reader). ((‵ (flft κ q) ⊛ ‵ ftrue) ⊛ ‵ ((Row (κ, tt)).own r (u ∷ [])))
         ⊛ raw (ensured 𝓛 new.ended (new.clauses 𝓛 mem run) (κ, tt) (s, (i, tt)) tt r)))) (id⊢ 𝓤 _) $ await ! tt $ pick ! (λ r.
-        split ! $ move ! (1 ∷ []) $ use1 𝓛 (raw (fact 𝓤 (Stands s i r))) (new-said 𝓛 mem run κ q s i n iok r) $
+        split ! $ move ! (1 ∷ []) $ use1 𝓛 (raw (fact 𝓤 (Stands s i r))) (new_said 𝓛 mem run κ q s i n iok r) $
         heard ! (Stands s i r) (λ e. split ! $ move ! (1 ∷ []) $
         -- [what the struct owns; the token; what s owns; room for the struct; …; the other locals, the last first]
         peeks ! (Row (κ, tt)) (Is (Row (κ, tt))) (shows 𝓛 (Row (κ, tt))) r (u ∷ []) (λ is.
         land ! (from ! (stop !))
         (init ! 3 refl ((LL.lawful (T.the_type (record { mir = erased; lft = κ })) (T'.the_laws (record { mir = erased; lft = κ })) 𝓛).typed r _ is).0) $
         use2 𝓛 (raw ((Moved 𝓛 mem run).pre (to r u))) (goes r u) $
-        calls_at ! fm (Moved 𝓛 mem run) known-moved (to r u)
+        calls_at ! fm (Moved 𝓛 mem run) known_moved (to r u)
         (and_then ! (load ! (from ! (stop !)) (look ! 2 refl)) (and_then ! (load ! (from ! (stop !)) (look ! 6 refl)) (no_more !))) (λ v.
         use1 𝓛 (later (some (λ (t : Reader). ((‵ (flft κ q) ⊛ ‵ ftrue) ⊛ ‵ ((Row (κ, tt)).own t (v ∷ [])))
         ⊛ raw (ensured 𝓛 moved.ended (moved.clauses 𝓛 mem run) (κ, tt) (r, (n, tt)) tt t)))) (id⊢ 𝓤 _) $ await ! tt $ pick ! (λ t.
@@ -195,20 +195,20 @@ module _ {M : Type 1} {𝓤 : Ura M} (𝓛 : Logic 𝓤) (mem : Memory → SProp
 module _ {M : Type 1} {𝓤 : Ura M} (𝓛 : Logic 𝓤) (mem : Memory → SProp 𝓤) (run : Routine → Fun 𝓤) where
   open 𝓛 use {H}
 
-  place_from-walks : (C : Calls 𝓤 H) (Λ : Loops 𝓤 H) → FmC 𝓤 H 𝓛.laws C → Triple 𝓤 (C #reader·new) (New 𝓛 mem run)
+  place_from_walks : (C : Calls 𝓤 H) (Λ : Loops 𝓤 H) → FmC 𝓤 H 𝓛.laws C → Triple 𝓤 (C #reader·new) (New 𝓛 mem run)
       → Triple 𝓤 (C #reader·moved) (Moved 𝓛 mem run)
       → Walks 𝓛 place_from.ended stayed (WpFn 𝓤 H C Λ code.function) (place_from.clauses 𝓛 mem run)
-  place_from-walks C Λ fm known-new known-moved =
+  place_from_walks C Λ fm known_new known_moved =
       walked 𝓛 place_from.ended stayed (place_from.clauses 𝓛 mem run) (WpFn 𝓤 H C Λ code.function)
       (λ κs. (shr_slice_vals, (uint_vals w64, (uint_vals w64, tt))))
       (λ κs. (shr_slice_Tells (named 0) κs.0 u8, (uint_Tells w64, (uint_Tells w64, tt))))
       (λ κs qs bounds a g are. via 𝓤 _ (fst∗ 𝓤 _ (emp 𝓤))
-      (walk 𝓛 mem run κs.0 qs.0 a.0 a.1.0 a.1.1.0 are.1.0.1 are.1.1.0.1 C Λ fm known-new known-moved are.0))
+      (walk 𝓛 mem run κs.0 qs.0 a.0 a.1.0 a.1.1.0 are.1.0.1 are.1.1.0.1 C Λ fm known_new known_moved are.0))
 
-place_from-meets : {M : Type 1} {𝓤 : Ura M} (𝓛 : Logic 𝓤) (mem : Memory → SProp 𝓤) (run : Routine → Fun 𝓤) (𝓣 : Tables 𝓤 𝓛.H)
+place_from_meets : {M : Type 1} {𝓤 : Ura M} (𝓛 : Logic 𝓤) (mem : Memory → SProp 𝓤) (run : Routine → Fun 𝓤) (𝓣 : Tables 𝓤 𝓛.H)
     → Triple 𝓤 (𝓣.C #reader·new) (New 𝓛 mem run) → Triple 𝓤 (𝓣.C #reader·moved) (Moved 𝓛 mem run)
     → Meets 𝓛 place_from.signature (WpFn 𝓤 𝓛.H 𝓣.C 𝓣.Λ code.function) (place_from.spec 𝓛 mem run)
-place_from-meets {𝓤 = 𝓤} 𝓛 mem run 𝓣 known-new known-moved =
+place_from_meets {𝓤 = 𝓤} 𝓛 mem run 𝓣 known_new known_moved =
     walk_Meets 𝓛 place_from.ended stayed (
       Goes-none_slice 𝓛 1 (0 ∷ []) tt (plain (λ _. u8)) yes,
       (
@@ -217,13 +217,13 @@ place_from-meets {𝓤 = 𝓤} 𝓛 mem run 𝓣 known-new known-moved =
       ),
     )
     (place_from.clauses 𝓛 mem run) (WpFn 𝓤 𝓛.H 𝓣.C 𝓣.Λ code.function) (WpFn-mono 𝓤 𝓛.H 𝓛.laws 𝓣 code.function)
-    (place_from-walks 𝓛 mem run 𝓣.C 𝓣.Λ (fm_of 𝓤 𝓛.H 𝓛.laws 𝓣) known-new known-moved)
+    (place_from_walks 𝓛 mem run 𝓣.C 𝓣.Λ (fm_of 𝓤 𝓛.H 𝓛.laws 𝓣) known_new known_moved)
 
-pub place-from-spec : {M : Type 1} → stated.statement M
+pub place_from_spec : {M : Type 1} → stated.statement M
 unfolding code.routine tables_of
-place-from-spec 𝓤 𝓛 𝓜 𝓡 =
+place_from_spec 𝓤 𝓛 𝓜 𝓡 =
     entered 𝓤 𝓛.H (triple_of 𝓛 place_from.signature (place_from.spec 𝓛 𝓜.mem 𝓡.run))
     (tables 𝓤 𝓛.H 𝓜 𝓡 code.env).C (tables 𝓤 𝓛.H 𝓜 𝓡 code.env).Λ #reader·place-from code.function (code.unfolded 𝓤 𝓛.H 𝓜 𝓡)
-    (place_from-meets 𝓛 𝓜.mem 𝓡.run (tables_of 𝓤 𝓛.H 𝓜 (tables 𝓤 𝓛.H 𝓜 𝓡 code.env))
-    (cited 𝓤 𝓛.H (New 𝓛 𝓜.mem 𝓡.run) 𝓜 𝓡 code.env #reader·new new-def.routine code.calls-reader::new (new-thm.met 𝓤 𝓛 𝓜 𝓡))
-    (cited 𝓤 𝓛.H (Moved 𝓛 𝓜.mem 𝓡.run) 𝓜 𝓡 code.env #reader·moved moved-def.routine code.calls-reader::moved (moved-thm.met 𝓤 𝓛 𝓜 𝓡)))
+    (place_from_meets 𝓛 𝓜.mem 𝓡.run (tables_of 𝓤 𝓛.H 𝓜 (tables 𝓤 𝓛.H 𝓜 𝓡 code.env))
+    (cited 𝓤 𝓛.H (New 𝓛 𝓜.mem 𝓡.run) 𝓜 𝓡 code.env #reader·new new_def.routine code.calls-reader::new (new_thm.met 𝓤 𝓛 𝓜 𝓡))
+    (cited 𝓤 𝓛.H (Moved 𝓛 𝓜.mem 𝓡.run) 𝓜 𝓡 code.env #reader·moved moved_def.routine code.calls-reader::moved (moved_thm.met 𝓤 𝓛 𝓜 𝓡)))

@@ -17,17 +17,17 @@ four (x ∷ y ∷ z ∷ []) a b c d h = absurd (omega arith)
 four (x ∷ y ∷ z ∷ w ∷ []) a b c d h = refl
 four (x ∷ y ∷ z ∷ w ∷ v ∷ t) a b c d h = absurd (omega arith)
 
-slice-write-row : tie.Need-slice-write-row
-slice-write-row c = search rules
+slice_write_row : tie.Need-slice-write-row
+slice_write_row c = search rules
 
-slice-write-row-2 : tie.Need-slice-write-row-2
-slice-write-row-2 c = search rules
+slice_write_row_2 : tie.Need-slice-write-row-2
+slice_write_row_2 c = search rules
 
-slice-write-row-3 : tie.Need-slice-write-row-3
-slice-write-row-3 c = search rules
+slice_write_row_3 : tie.Need-slice-write-row-3
+slice_write_row_3 c = search rules
 
-slice-write-row-4 : tie.Need-slice-write-row-4
-slice-write-row-4 c = search rules
+slice_write_row_4 : tie.Need-slice-write-row-4
+slice_write_row_4 c = search rules
 
 same_length : tie.Need-same-length
 same_length c = search rules
@@ -36,13 +36,13 @@ returns : tie.Need-returns
 unfolding words
 returns c = four c.args.row.now c.args.r.origin c.args.r.timestamp c.args.r.block c.args.r.verdict c.requires
 
-pub fill-record-spec : {M : Type 1} → statement M
-fill-record-spec =
+pub fill_record_spec : {M : Type 1} → statement M
+fill_record_spec =
     tie.close
     (tie.spec
-    slice-write-row
-    slice-write-row-2
-    slice-write-row-3
-    slice-write-row-4
+    slice_write_row
+    slice_write_row_2
+    slice_write_row_3
+    slice_write_row_4
     same_length
     returns)

@@ -28,65 +28,65 @@ more r o row i same h l e =
 whole : (r o row : List ℕ) (i : ℕ) → length o ≡ length r → i ≡ length r → row ≡ place 0 (take i o) r → row ≡ o
 whole r o row i same e f = f ∙ ap (λ (m : ℕ). place 0 (take m o) r) (e ∙ sym same) ∙ ap (λ (z : List ℕ). place 0 z r) (take-length o) ∙ place-all o r same
 
-abbrev invariant-loop : tie.invariant-loop
-invariant-loop to₀ from i₀ to i = (i ≤ length to₀) × (length to ≡ length to₀) × (to ≡ place 0 (take i from) to₀)
+abbrev invariant_loop : tie.invariant_loop
+invariant_loop to₀ from i₀ to i = (i ≤ length to₀) × (length to ≡ length to₀) × (to ≡ place 0 (take i from) to₀)
 
-abbrev decreases-loop : tie.decreases-loop
-decreases-loop to₀ from i₀ to i = length to₀ - i
+abbrev decreases_loop : tie.decreases_loop
+decreases_loop to₀ from i₀ to i = length to₀ - i
 
-loop-holds : tie.Need-loop-init invariant-loop decreases-loop
-loop-holds c = (search rules, refl, none c.args.to.now c.args.from.now)
+loop_holds : tie.Need-loop-init invariant_loop decreases_loop
+loop_holds c = (search rules, refl, none c.args.to.now c.args.from.now)
 
-mul-to : tie.Need-overflow-mul-to invariant-loop decreases-loop
-mul-to c = search rules
+mul_to : tie.Need-overflow-mul-to invariant_loop decreases_loop
+mul_to c = search rules
 
-shared-slice-read-to : tie.Need-shared-slice-read-to invariant-loop decreases-loop
-shared-slice-read-to c = search rules
+shared_slice_read_to : tie.Need-shared-slice-read-to invariant_loop decreases_loop
+shared_slice_read_to c = search rules
 
-mul-to-2 : tie.Need-overflow-mul-to-2 invariant-loop decreases-loop
-mul-to-2 c = search rules
+mul_to_2 : tie.Need-overflow-mul-to-2 invariant_loop decreases_loop
+mul_to_2 c = search rules
 
-slice-write-to : tie.Need-slice-write-to invariant-loop decreases-loop
-slice-write-to c = search rules
+slice_write_to : tie.Need-slice-write-to invariant_loop decreases_loop
+slice_write_to c = search rules
 
-add-i : tie.Need-overflow-add-i invariant-loop decreases-loop
-add-i c = search rules
+add_i : tie.Need-overflow-add-i invariant_loop decreases_loop
+add_i c = search rules
 
-loop-less : tie.Need-loop-smaller invariant-loop decreases-loop
-loop-less c = search rules
+loop_less : tie.Need-loop-smaller invariant_loop decreases_loop
+loop_less c = search rules
 
-loop-again : tie.Need-loop-preserved invariant-loop decreases-loop
-loop-again c =
-    let at-loop = c.before.before in
-    let start = at-loop.before in (
+loop_again : tie.Need-loop-preserved invariant_loop decreases_loop
+loop_again c =
+    let at_loop = c.before.before in
+    let start = at_loop.before in (
       omega arith,
-      length-set at-loop.loop.to at-loop.loop.i (get_or start.args.from.now at-loop.loop.i 0) ∙ at-loop.loop.invariant.1,
-      more start.args.to.now start.args.from.now at-loop.loop.to at-loop.loop.i start.requires (omega arith) at-loop.loop.invariant.1
-          at-loop.loop.invariant.2,
+      length-set at_loop.loop.to at_loop.loop.i (get_or start.args.from.now at_loop.loop.i 0) ∙ at_loop.loop.invariant.1,
+      more start.args.to.now start.args.from.now at_loop.loop.to at_loop.loop.i start.requires (omega arith) at_loop.loop.invariant.1
+          at_loop.loop.invariant.2,
     )
 
-same_length : tie.Need-same-length invariant-loop decreases-loop
+same_length : tie.Need-same-length invariant_loop decreases_loop
 same_length c = search rules
 
-returns : tie.Need-returns invariant-loop decreases-loop
+returns : tie.Need-returns invariant_loop decreases_loop
 returns c =
-    let at-loop = c.before in
-    let start = at-loop.before in
-    whole start.args.to.now start.args.from.now at-loop.loop.to at-loop.loop.i start.requires (omega arith) at-loop.loop.invariant.2
+    let at_loop = c.before in
+    let start = at_loop.before in
+    whole start.args.to.now start.args.from.now at_loop.loop.to at_loop.loop.i start.requires (omega arith) at_loop.loop.invariant.2
 
-pub copy-row-spec : {M : Type 1} → statement M
-copy-row-spec =
+pub copy_row_spec : {M : Type 1} → statement M
+copy_row_spec =
     tie.close
     (tie.spec
-    invariant-loop
-    decreases-loop
-    loop-holds
-    mul-to
-    shared-slice-read-to
-    mul-to-2
-    slice-write-to
-    add-i
-    loop-less
-    loop-again
+    invariant_loop
+    decreases_loop
+    loop_holds
+    mul_to
+    shared_slice_read_to
+    mul_to_2
+    slice_write_to
+    add_i
+    loop_less
+    loop_again
     same_length
     returns)

@@ -36,80 +36,80 @@ module _ (r a b : List ℕ) (sa : length a ≡ length r) (sb : length b ≡ leng
       (ap (λ (m : ℕ). take m b) (e ∙ sym sb) ∙ take-length b) ∙
       place-all (raise a b) r (length-raise a b (length r) sa sb)
 
-abbrev invariant-loop : tie.invariant-loop
-invariant-loop row₀ mine theirs i₀ row i = (i ≤ length row₀) × (length row ≡ length row₀) × (row ≡ place 0 (raise (take i mine) (take i theirs)) row₀)
+abbrev invariant_loop : tie.invariant_loop
+invariant_loop row₀ mine theirs i₀ row i = (i ≤ length row₀) × (length row ≡ length row₀) × (row ≡ place 0 (raise (take i mine) (take i theirs)) row₀)
 
-abbrev decreases-loop : tie.decreases-loop
-decreases-loop row₀ mine theirs i₀ row i = length row₀ - i
+abbrev decreases_loop : tie.decreases_loop
+decreases_loop row₀ mine theirs i₀ row i = length row₀ - i
 
-loop-holds : tie.Need-loop-init invariant-loop decreases-loop
-loop-holds c =
+loop_holds : tie.Need-loop-init invariant_loop decreases_loop
+loop_holds c =
     let start = c.before.before.before in
     (search rules, refl, none start.args.row.now start.args.mine.now start.args.theirs.now)
 
-mul-max-of : tie.Need-overflow-mul-max-of invariant-loop decreases-loop
-mul-max-of c = search rules
+mul_max_of : tie.Need-overflow-mul-max-of invariant_loop decreases_loop
+mul_max_of c = search rules
 
-shared-slice-read-max-of : tie.Need-shared-slice-read-max-of invariant-loop decreases-loop
-shared-slice-read-max-of c = search rules
+shared_slice_read_max_of : tie.Need-shared-slice-read-max-of invariant_loop decreases_loop
+shared_slice_read_max_of c = search rules
 
-mul-max-of-2 : tie.Need-overflow-mul-max-of-2 invariant-loop decreases-loop
-mul-max-of-2 c = search rules
+mul_max_of_2 : tie.Need-overflow-mul-max-of-2 invariant_loop decreases_loop
+mul_max_of_2 c = search rules
 
-shared-slice-read-max-of-2 : tie.Need-shared-slice-read-max-of-2 invariant-loop decreases-loop
-shared-slice-read-max-of-2 c = search rules
+shared_slice_read_max_of_2 : tie.Need-shared-slice-read-max-of-2 invariant_loop decreases_loop
+shared_slice_read_max_of_2 c = search rules
 
-max-of-requires : tie.Need-max-of-requires invariant-loop decreases-loop
-max-of-requires c κs = search rules
+max_of_requires : tie.Need-max-of-requires invariant_loop decreases_loop
+max_of_requires c κs = search rules
 
-mul-row : tie.Need-overflow-mul-row invariant-loop decreases-loop
-mul-row c = search rules
+mul_row : tie.Need-overflow-mul-row invariant_loop decreases_loop
+mul_row c = search rules
 
-slice-write-row : tie.Need-slice-write-row invariant-loop decreases-loop
-slice-write-row c = search rules
+slice_write_row : tie.Need-slice-write-row invariant_loop decreases_loop
+slice_write_row c = search rules
 
-add-i : tie.Need-overflow-add-i invariant-loop decreases-loop
-add-i c = search rules
+add_i : tie.Need-overflow-add-i invariant_loop decreases_loop
+add_i c = search rules
 
-loop-less : tie.Need-loop-smaller invariant-loop decreases-loop
-loop-less c = search rules
+loop_less : tie.Need-loop-smaller invariant_loop decreases_loop
+loop_less c = search rules
 
-loop-again : tie.Need-loop-preserved invariant-loop decreases-loop
-loop-again c =
-    let at-loop = c.before.before.before.before in
-    let start = at-loop.before.before.before.before in (
+loop_again : tie.Need-loop-preserved invariant_loop decreases_loop
+loop_again c =
+    let at_loop = c.before.before.before.before in
+    let start = at_loop.before.before.before.before in (
       omega arith,
-      length-set at-loop.loop.row at-loop.loop.i c.max_of.result ∙ at-loop.loop.invariant.1,
-      more start.args.row.now start.args.mine.now start.args.theirs.now start.requires.0 start.requires.1 at-loop.loop.i
-          at-loop.loop.row c.max_of.result (omega arith) at-loop.loop.invariant.2 c.max_of.ensures at-loop.loop.invariant.1,
+      length-set at_loop.loop.row at_loop.loop.i c.max_of.result ∙ at_loop.loop.invariant.1,
+      more start.args.row.now start.args.mine.now start.args.theirs.now start.requires.0 start.requires.1 at_loop.loop.i
+          at_loop.loop.row c.max_of.result (omega arith) at_loop.loop.invariant.2 c.max_of.ensures at_loop.loop.invariant.1,
     )
 
-same_length : tie.Need-same-length invariant-loop decreases-loop
+same_length : tie.Need-same-length invariant_loop decreases_loop
 same_length c = search rules
 
-returns : tie.Need-returns invariant-loop decreases-loop
+returns : tie.Need-returns invariant_loop decreases_loop
 returns c =
-    let at-loop = c.before in
-    let start = at-loop.before.before.before.before in
-    at-loop.loop.invariant.2 ∙ whole start.args.row.now start.args.mine.now start.args.theirs.now start.requires.0 start.requires.1
-    at-loop.loop.i (omega arith)
+    let at_loop = c.before in
+    let start = at_loop.before.before.before.before in
+    at_loop.loop.invariant.2 ∙ whole start.args.row.now start.args.mine.now start.args.theirs.now start.requires.0 start.requires.1
+    at_loop.loop.i (omega arith)
 
-pub fill-raised-spec : {M : Type 1} → statement M
-fill-raised-spec =
+pub fill_raised_spec : {M : Type 1} → statement M
+fill_raised_spec =
     tie.close
     (tie.spec
-    invariant-loop
-    decreases-loop
-    loop-holds
-    mul-max-of
-    shared-slice-read-max-of
-    mul-max-of-2
-    shared-slice-read-max-of-2
-    max-of-requires
-    mul-row
-    slice-write-row
-    add-i
-    loop-less
-    loop-again
+    invariant_loop
+    decreases_loop
+    loop_holds
+    mul_max_of
+    shared_slice_read_max_of
+    mul_max_of_2
+    shared_slice_read_max_of_2
+    max_of_requires
+    mul_row
+    slice_write_row
+    add_i
+    loop_less
+    loop_again
     same_length
     returns)

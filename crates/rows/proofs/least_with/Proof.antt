@@ -11,8 +11,8 @@ use lib.Dec.{ltb, eqb}
 use lib.ListN.{length, get_or, set, length-set}
 use lib.Seq.{get_or-set_same, get_or-set_other}
 use borrow.Author.Tests.{lt-ltb, le-ltb, eq-eqb, ne_eqb}
-use Rattle.meaning.specs.Rows.{least, leastAt}
-use Rattle.meaning.proofs.RowLaws.{leastAt-is}
+use Rattle.meaning.specs.Rows.{least, least_at}
+use Rattle.meaning.proofs.RowLaws.{least_at_is}
 use borrow.Author.Rules.{rules}
 use Rattle.rows.proofs.least_with.Statement.{statement}
 use Rattle.rows.proofs.least_with.Tie as tie
@@ -57,16 +57,16 @@ module _ (xs : List ℕ) (i low at k : ℕ) (here : k < length xs) (f : Found xs
         most = f.most;
         passed = λ apart. let p = f.passed apart in omega arith;
         none = λ j g. go j g (dec_lt j k);
-        before = λ j g below. go-before j g below (dec_lt j k);
+        before = λ j g below. go_before j g below (dec_lt j k);
       }
     where
       go : (j : ℕ) → j < k + 1 → Dec (j < k) → low ≤ get_or xs j 0
       go j g (yes a) = f.none j a
       go j g (no a) = let same : k ≡ j = omega arith in let y = ap (λ (m : ℕ). get_or xs m 0) same in omega arith
 
-      go-before : (j : ℕ) → j < k + 1 → j < at → Dec (j < k) → low < get_or xs j 0
-      go-before j g below (yes a) = f.before j a below
-      go-before j g below (no a) =
+      go_before : (j : ℕ) → j < k + 1 → j < at → Dec (j < k) → low < get_or xs j 0
+      go_before j g below (yes a) = f.before j a below
+      go_before j g below (no a) =
           let same : k ≡ j = omega arith in
           let y = ap (λ (m : ℕ). get_or xs m 0) same in
           let z = later (omega arith) in
@@ -83,20 +83,20 @@ module _ (xs : List ℕ) (i low at k : ℕ) (here : k < length xs) (f : Found xs
       rw (m, le-ltb x low (omega arith), ne_eqb x low (omega arith)) (stays (omega arith) (λ below. omega arith))
 
   -- an equal one before i, while what was found is entry i
-  equal-first : (x : ℕ) → x ≡ get_or xs k 0 → x ≡ low → k < i → at ≡ i → Found xs i (min low x) (placed low at x k i) (k + 1)
-  equal-first x e h before own =
+  equal_first : (x : ℕ) → x ≡ get_or xs k 0 → x ≡ low → k < i → at ≡ i → Found xs i (min low x) (placed low at x k i) (k + 1)
+  equal_first x e h before own =
       let m : min low x ≡ x = omega arith in
       rw (m, le-ltb x low (omega arith), eq-eqb x low h, lt-ltb k i before, eq-eqb at i own)
       (taken x e (omega arith) (λ j g. let least = f.before j g (omega arith) in omega arith))
 
-  equal-moved : (x : ℕ) → x ≡ get_or xs k 0 → x ≡ low → k < i → (at ≡ i → ⊥) → Found xs i (min low x) (placed low at x k i) (k + 1)
-  equal-moved x e h before moved =
+  equal_moved : (x : ℕ) → x ≡ get_or xs k 0 → x ≡ low → k < i → (at ≡ i → ⊥) → Found xs i (min low x) (placed low at x k i) (k + 1)
+  equal_moved x e h before moved =
       let m : min low x ≡ low = omega arith in
       let p = f.passed moved in
       rw (m, le-ltb x low (omega arith), eq-eqb x low h, lt-ltb k i before, ne_eqb at i moved) (stays (omega arith) (λ below. absurd (omega arith)))
 
-  equal-later : (x : ℕ) → x ≡ get_or xs k 0 → x ≡ low → i < k → Found xs i (min low x) (placed low at x k i) (k + 1)
-  equal-later x e h behind =
+  equal_later : (x : ℕ) → x ≡ get_or xs k 0 → x ≡ low → i < k → Found xs i (min low x) (placed low at x k i) (k + 1)
+  equal_later x e h behind =
       let m : min low x ≡ low = omega arith in
       rw (m, le-ltb x low (omega arith), eq-eqb x low h, le-ltb k i (omega arith)) (stays (omega arith) (λ below. absurd (omega (arith, at_most))))
     where
@@ -113,10 +113,10 @@ module _ (xs : List ℕ) (i low at k : ℕ) (here : k < length xs) (f : Found xs
       go : Dec (x < low) → Dec (low < x) → Dec (k < i) → Dec (at < i) → Dec (i < at) → Found xs i (min low x) (placed low at x k i) (k + 1)
       go (yes a) b c d g = smaller x e a
       go (no a) (yes b) c d g = greater x e b
-      go (no a) (no b) (no c) d g = equal-later x e (omega arith) (omega arith)
-      go (no a) (no b) (yes c) (yes d) g = equal-moved x e (omega arith) c (omega arith)
-      go (no a) (no b) (yes c) (no d) (yes g) = equal-moved x e (omega arith) c (omega arith)
-      go (no a) (no b) (yes c) (no d) (no g) = equal-first x e (omega arith) c (omega arith)
+      go (no a) (no b) (no c) d g = equal_later x e (omega arith) (omega arith)
+      go (no a) (no b) (yes c) (yes d) g = equal_moved x e (omega arith) c (omega arith)
+      go (no a) (no b) (yes c) (no d) (yes g) = equal_moved x e (omega arith) c (omega arith)
+      go (no a) (no b) (yes c) (no d) (no g) = equal_first x e (omega arith) c (omega arith)
 
   -- entry i itself was there from the beginning
   own : k ≡ i → Found xs i low at (k + 1)
@@ -151,62 +151,62 @@ module _ (row : List ℕ) (i v : ℕ) (h : i < length row) where
       let long = length-set row i v in
       rw (en, et) (own (set row i v) i low at k (omega arith) f e)
 
-  whole : (low at k : ℕ) → length row ≤ k → Found (set row i v) i low at k → (low ≡ least (set row i v)) × (at ≡ leastAt (set row i v))
+  whole : (low at k : ℕ) → length row ≤ k → Found (set row i v) i low at k → (low ≡ least (set row i v)) × (at ≡ least_at (set row i v))
   whole low at k g f =
       let long = length-set row i v in
       let e = f.stands in
       let both =
-      leastAt-is (set row i v) at f.inside (λ j a. let y = f.none j (omega arith) in omega arith)
+      least_at_is (set row i v) at f.inside (λ j a. let y = f.none j (omega arith) in omega arith)
       (λ j a. let inside = f.inside in let y = f.before j (omega arith) a in omega arith)
       in
       (e ∙ both.0, both.1)
 
-abbrev invariant-loop : tie.invariant-loop
-invariant-loop row i v low₀ at₀ k₀ low at k = (k ≤ length row) × Found (set row i v) i low at k
+abbrev invariant_loop : tie.invariant_loop
+invariant_loop row i v low₀ at₀ k₀ low at k = (k ≤ length row) × Found (set row i v) i low at k
 
-abbrev decreases-loop : tie.decreases-loop
-decreases-loop row i v low₀ at₀ k₀ low at k = length row - k
+abbrev decreases_loop : tie.decreases_loop
+decreases_loop row i v low₀ at₀ k₀ low at k = length row - k
 
-loop-holds : tie.Need-loop-init invariant-loop decreases-loop
-loop-holds c =
+loop_holds : tie.Need-loop-init invariant_loop decreases_loop
+loop_holds c =
     let start = c.before in
     (search rules, starts start.args.row.now start.args.i start.args.v start.requires)
 
-mul-place-of : tie.Need-overflow-mul-place-of invariant-loop decreases-loop
-mul-place-of c = search rules
+mul_place_of : tie.Need-overflow-mul-place-of invariant_loop decreases_loop
+mul_place_of c = search rules
 
-shared-slice-read-place-of : tie.Need-shared-slice-read-place-of invariant-loop decreases-loop
-shared-slice-read-place-of c = search rules
+shared_slice_read_place_of : tie.Need-shared-slice-read-place-of invariant_loop decreases_loop
+shared_slice_read_place_of c = search rules
 
-place-of-requires : tie.Need-place-of-requires invariant-loop decreases-loop
-place-of-requires c κs = search rules
+place_of_requires : tie.Need-place-of-requires invariant_loop decreases_loop
+place_of_requires c κs = search rules
 
-mul-min-of : tie.Need-overflow-mul-min-of invariant-loop decreases-loop
-mul-min-of c = search rules
+mul_min_of : tie.Need-overflow-mul-min-of invariant_loop decreases_loop
+mul_min_of c = search rules
 
-shared-slice-read-min-of : tie.Need-shared-slice-read-min-of invariant-loop decreases-loop
-shared-slice-read-min-of c = search rules
+shared_slice_read_min_of : tie.Need-shared-slice-read-min-of invariant_loop decreases_loop
+shared_slice_read_min_of c = search rules
 
-min-of-requires : tie.Need-min-of-requires invariant-loop decreases-loop
-min-of-requires c κs = search rules
+min_of_requires : tie.Need-min-of-requires invariant_loop decreases_loop
+min_of_requires c κs = search rules
 
-add-k : tie.Need-overflow-add-k invariant-loop decreases-loop
-add-k c = search rules
+add_k : tie.Need-overflow-add-k invariant_loop decreases_loop
+add_k c = search rules
 
-loop-less : tie.Need-loop-smaller invariant-loop decreases-loop
-loop-less c = search rules
+loop_less : tie.Need-loop-smaller invariant_loop decreases_loop
+loop_less c = search rules
 
-loop-again : tie.Need-loop-preserved invariant-loop decreases-loop
-loop-again c =
-    let at-loop = c.before.before in
-    let start = at-loop.before.before in
+loop_again : tie.Need-loop-preserved invariant_loop decreases_loop
+loop_again c =
+    let at_loop = c.before.before in
+    let start = at_loop.before.before in
     let row = start.args.row.now in
     let i = start.args.i in
     let v = start.args.v in
-    let k = at-loop.loop.k in
-    let inv = at-loop.loop.invariant in
-    let low = at-loop.loop.low in
-    let at = at-loop.loop.at in
+    let k = at_loop.loop.k in
+    let inv = at_loop.loop.invariant in
+    let low = at_loop.loop.low in
+    let at = at_loop.loop.at in
     let inside : k < length row = omega arith in (
       omega arith,
       ⊎_elim
@@ -216,27 +216,27 @@ loop-again c =
           c.if1.branch,
     )
 
-returns : tie.Need-returns invariant-loop decreases-loop
+returns : tie.Need-returns invariant_loop decreases_loop
 returns c =
-    let at-loop = c.before in
-    let start = at-loop.before.before in
-    whole start.args.row.now start.args.i start.args.v start.requires at-loop.loop.low at-loop.loop.at at-loop.loop.k (omega arith)
-    at-loop.loop.invariant.1
+    let at_loop = c.before in
+    let start = at_loop.before.before in
+    whole start.args.row.now start.args.i start.args.v start.requires at_loop.loop.low at_loop.loop.at at_loop.loop.k (omega arith)
+    at_loop.loop.invariant.1
 
-pub least-with-spec : {M : Type 1} → statement M
-least-with-spec =
+pub least_with_spec : {M : Type 1} → statement M
+least_with_spec =
     tie.close
     (tie.spec
-    invariant-loop
-    decreases-loop
-    loop-holds
-    mul-place-of
-    shared-slice-read-place-of
-    place-of-requires
-    mul-min-of
-    shared-slice-read-min-of
-    min-of-requires
-    add-k
-    loop-less
-    loop-again
+    invariant_loop
+    decreases_loop
+    loop_holds
+    mul_place_of
+    shared_slice_read_place_of
+    place_of_requires
+    mul_min_of
+    shared_slice_read_min_of
+    min_of_requires
+    add_k
+    loop_less
+    loop_again
     returns)

@@ -9,14 +9,14 @@ returns c =
     let start = c.before in
     rw (lt-ltb start.args.x start.args.low c.if1.true)
 
-returns-2 : tie.Need-returns-2
-returns-2 c =
+returns_2 : tie.Need-returns-2
+returns_2 c =
     let start = c.before.before in
     let more = c.if2.true in
     rw (le-ltb start.args.x start.args.low (omega arith), ne_eqb start.args.x start.args.low (omega arith))
 
-returns-3 : tie.Need-returns-3
-returns-3 c =
+returns_3 : tie.Need-returns-3
+returns_3 c =
     let start = c.before.before.before in
     let more = c.before.if2.false in
     let less = c.before.before.if1.false in
@@ -27,8 +27,8 @@ returns-3 c =
       le-ltb start.args.k start.args.i (omega arith),
     )
 
-returns-4 : tie.Need-returns-4
-returns-4 c =
+returns_4 : tie.Need-returns-4
+returns_4 c =
     let start = c.before.before.before.before in
     let before = c.before.if3.false in
     let more = c.before.before.if2.false in
@@ -40,8 +40,8 @@ returns-4 c =
       eq-eqb start.args.at start.args.i c.if4.true,
     )
 
-returns-5 : tie.Need-returns-5
-returns-5 c =
+returns_5 : tie.Need-returns-5
+returns_5 c =
     let start = c.before.before.before.before in
     let before = c.before.if3.false in
     let more = c.before.before.if2.false in
@@ -53,5 +53,5 @@ returns-5 c =
       ne_eqb start.args.at start.args.i c.if4.false,
     )
 
-pub place-of-spec : {M : Type 1} → statement M
-place-of-spec = tie.close (tie.spec returns returns-2 returns-3 returns-4 returns-5)
+pub place_of_spec : {M : Type 1} → statement M
+place_of_spec = tie.close (tie.spec returns returns_2 returns_3 returns_4 returns_5)

@@ -5,7 +5,7 @@ use Prim.Native.Nat.{ℕ, ◌+◌, ◌≤◌, ◌<◌}
 use native.Mathlib.Omega.{arith}
 use lib.ListN.{length, get_or, set}
 use Rattle.meaning.specs.Table.{part, place}
-use Rattle.meaning.proofs.PlaceLaws.{length_part, place-inner, set-place}
+use Rattle.meaning.proofs.PlaceLaws.{length_part, place_inner, set-place}
 use Rattle.rows.specs.Entry.{OneEntry}
 use borrow.Author.Rules.{rules}
 use Rattle.rows.proofs.put_entry.Statement.{statement}
@@ -23,22 +23,22 @@ one t row at i pre =
     set-place t (at + i) v (omega arith) ∙
     sym
     (ap (λ (z : List ℕ). place at z t) (pre.2 ∙ set-place old i v (omega arith)) ∙
-    place-inner at (length row) i (at + i) (v ∷ []) t refl (omega arith) fits)
+    place_inner at (length row) i (at + i) (v ∷ []) t refl (omega arith) fits)
 
-mul-t : tie.Need-overflow-mul-t
-mul-t c = search rules
+mul_t : tie.Need-overflow-mul-t
+mul_t c = search rules
 
-shared-slice-read-t : tie.Need-shared-slice-read-t
-shared-slice-read-t c = search rules
+shared_slice_read_t : tie.Need-shared-slice-read-t
+shared_slice_read_t c = search rules
 
-add-t : tie.Need-overflow-add-t
-add-t c = search rules
+add_t : tie.Need-overflow-add-t
+add_t c = search rules
 
-mul-t-2 : tie.Need-overflow-mul-t-2
-mul-t-2 c = search rules
+mul_t_2 : tie.Need-overflow-mul-t-2
+mul_t_2 c = search rules
 
-slice-write-t : tie.Need-slice-write-t
-slice-write-t c = search rules
+slice_write_t : tie.Need-slice-write-t
+slice_write_t c = search rules
 
 same_length : tie.Need-same-length
 same_length c = search rules
@@ -48,5 +48,5 @@ returns c =
     let start = c.before in
     one start.args.t.now start.args.row.now start.args.at start.args.i start.requires
 
-pub put-entry-spec : {M : Type 1} → statement M
-put-entry-spec = tie.close (tie.spec mul-t shared-slice-read-t add-t mul-t-2 slice-write-t same_length returns)
+pub put_entry_spec : {M : Type 1} → statement M
+put_entry_spec = tie.close (tie.spec mul_t shared_slice_read_t add_t mul_t_2 slice_write_t same_length returns)

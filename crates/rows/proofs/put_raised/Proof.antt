@@ -6,7 +6,7 @@ use native.Mathlib.Omega.{arith}
 use lib.ListN.{length, take, drop}
 use Rattle.meaning.specs.Rows.{raise}
 use Rattle.meaning.specs.Table.{place}
-use Rattle.meaning.proofs.PlaceLaws.{mid-place}
+use Rattle.meaning.proofs.PlaceLaws.{mid_place}
 use Rattle.meaning.proofs.RowLaws.{length-raise}
 use borrow.Author.Rules.{rules}
 use Rattle.rows.proofs.put_raised.Statement.{statement}
@@ -18,45 +18,45 @@ back :
 back t mine theirs w at same e =
     let lr = length-raise mine theirs (length mine) refl same in
     let l : length w ≡ (at + length mine) - at = ap length e ∙ omega arith in
-    mid-place at ((at + length mine) - at) t w l ∙ ap (λ (z : List ℕ). place at z t) e
+    mid_place at ((at + length mine) - at) t w l ∙ ap (λ (z : List ℕ). place at z t) e
 
-add-end : tie.Need-overflow-add-end
-add-end c = search rules
+add_end : tie.Need-overflow-add-end
+add_end c = search rules
 
-mul-fill-raised : tie.Need-overflow-mul-fill-raised
-mul-fill-raised c = search rules
+mul_fill_raised : tie.Need-overflow-mul-fill-raised
+mul_fill_raised c = search rules
 
-sub-fill-raised : tie.Need-overflow-sub-fill-raised
-sub-fill-raised c = search rules
+sub_fill_raised : tie.Need-overflow-sub-fill-raised
+sub_fill_raised c = search rules
 
-part-fill-raised-start : tie.Need-slice-bounds-fill-raised-start
-part-fill-raised-start c = search rules
+part_fill_raised_start : tie.Need-slice-bounds-fill-raised-start
+part_fill_raised_start c = search rules
 
-part-fill-raised-end : tie.Need-slice-bounds-fill-raised-end
-part-fill-raised-end c = search rules
+part_fill_raised_end : tie.Need-slice-bounds-fill-raised-end
+part_fill_raised_end c = search rules
 
-fill-raised-requires : tie.Need-fill-raised-requires
-fill-raised-requires c κs = search rules
+fill_raised_requires : tie.Need-fill-raised-requires
+fill_raised_requires c κs = search rules
 
 same_length : tie.Need-same-length
 same_length c = search rules
 
 returns : tie.Need-returns
 returns c =
-    let at-fill-raised = c.before.before in
-    let start = at-fill-raised.before.before.before.before.before in
-    back start.args.t.now start.args.mine.now start.args.theirs.now at-fill-raised.fill-raised.new.0 start.args.at
-    start.requires.1 at-fill-raised.fill-raised.ensures
+    let at_fill_raised = c.before.before in
+    let start = at_fill_raised.before.before.before.before.before in
+    back start.args.t.now start.args.mine.now start.args.theirs.now at_fill_raised.fill-raised.new.0 start.args.at
+    start.requires.1 at_fill_raised.fill-raised.ensures
 
-pub put-raised-spec : {M : Type 1} → statement M
-put-raised-spec =
+pub put_raised_spec : {M : Type 1} → statement M
+put_raised_spec =
     tie.close
     (tie.spec
-    add-end
-    mul-fill-raised
-    sub-fill-raised
-    part-fill-raised-start
-    part-fill-raised-end
-    fill-raised-requires
+    add_end
+    mul_fill_raised
+    sub_fill_raised
+    part_fill_raised_start
+    part_fill_raised_end
+    fill_raised_requires
     same_length
     returns)

@@ -4,11 +4,11 @@ use borrow.Author.Rules.{rules}
 use Rattle.rows.proofs.put_word.Statement.{statement}
 use Rattle.rows.proofs.put_word.Tie as tie
 
-mul-t : tie.Need-overflow-mul-t
-mul-t c = search rules
+mul_t : tie.Need-overflow-mul-t
+mul_t c = search rules
 
-slice-write-t : tie.Need-slice-write-t
-slice-write-t c = search rules
+slice_write_t : tie.Need-slice-write-t
+slice_write_t c = search rules
 
 same_length : tie.Need-same-length
 same_length c = search rules
@@ -16,5 +16,5 @@ same_length c = search rules
 returns : tie.Need-returns
 returns c = set-place c.args.t.now c.args.at c.args.v (search rules)
 
-pub put-word-spec : {M : Type 1} → statement M
-put-word-spec = tie.close (tie.spec mul-t slice-write-t same_length returns)
+pub put_word_spec : {M : Type 1} → statement M
+put_word_spec = tie.close (tie.spec mul_t slice_write_t same_length returns)

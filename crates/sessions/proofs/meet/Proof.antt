@@ -8,14 +8,14 @@ use lib.ListN.{length, take}
 use Rattle.meaning.specs.declared.Reply.{Reply}
 use Rattle.meaning.specs.declared.Reply.TheVariants.{Refused}
 use Rattle.meaning.specs.declared.Action.TheVariants.{Session}
-use Rattle.meaning.specs.Table.{form_of, Node, acksWide, node, count, Sound}
+use Rattle.meaning.specs.Table.{form_of, Node, acks_wide, node, count, Sound}
 use Rattle.meaning.specs.Node.{own, opened}
 use Rattle.meaning.specs.Steps.{acted, reported}
-use Rattle.meaning.proofs.TableLaws.{node-shaped}
-use Rattle.meaning.proofs.StepLaws.{opened-shaped, session-is-5-a, session-is-5-b, session-is-6, session-is-0, refuse, accept}
+use Rattle.meaning.proofs.TableLaws.{node_shaped}
+use Rattle.meaning.proofs.StepLaws.{opened_shaped, session_is_5_a, session_is_5_b, session_is_6, session_is_0, refuse, accept}
 use Rattle.looks.specs.Applied.{Applied}
 use Rattle.openings.specs.Begun.{begun, OwnOnly, Starts}
-use Rattle.openings.proofs.OwnLaws.{own-starts}
+use Rattle.openings.proofs.OwnLaws.{own_starts}
 use Rattle.exchanges.specs.Met.{crowded, Exchanged, Meets, Traded}
 use borrow.Author.Rules.{rules}
 use Rattle.sessions.proofs.meet.Statement.{statement}
@@ -23,27 +23,27 @@ use Rattle.sessions.proofs.meet.Tie as tie
 
 module _ (t : List ℕ) (a b ca cb o : ℕ) (pre : Sound t × (a < count t) × (b < count t) × (a ≡ b → ⊥) × (o ≤ 3)) where
   back_a : (x : ℕ) → x ≡ own a (node t a) → ca < x → Applied t (Session a b ca cb o) (Refused 5) t
-  back_a x e h = refuse t (Session a b ca cb o) 4 (session-is-5-a t pre.0 a b ca cb o pre.4 pre.1 pre.2 pre.3 (omega arith))
+  back_a x e h = refuse t (Session a b ca cb o) 4 (session_is_5_a t pre.0 a b ca cb o pre.4 pre.1 pre.2 pre.3 (omega arith))
 
   back_b : (x : ℕ) → x ≡ own b (node t b) → cb < x → Applied t (Session a b ca cb o) (Refused 5) t
-  back_b x e h = refuse t (Session a b ca cb o) 4 (session-is-5-b t pre.0 a b ca cb o pre.4 pre.1 pre.2 pre.3 (omega arith))
+  back_b x e h = refuse t (Session a b ca cb o) 4 (session_is_5_b t pre.0 a b ca cb o pre.4 pre.1 pre.2 pre.3 (omega arith))
 
   -- the readings are in order
   module _ {r : Reply} {u : List ℕ} (trade : Traded t o a b (opened a ca (node t a)) (opened b cb (node t b)) r u)
       (ga : own a (node t a) ≤ ca) (gb : own b (node t b) ≤ cb) where
-    by-room : (full : Bool) → crowded o (opened a ca (node t a)) (opened b cb (node t b)) ≡ full → Applied t (Session a b ca cb o) r u
+    by_room : (full : Bool) → crowded o (opened a ca (node t a)) (opened b cb (node t b)) ≡ full → Applied t (Session a b ca cb o) r u
     unfolding reported acted
-    by-room true h =
+    by_room true h =
         let is = trade.full h in
-        let asked = refuse t (Session a b ca cb o) 5 (session-is-6 t pre.0 a b ca cb o pre.4 pre.1 pre.2 pre.3 ga gb h) in
+        let asked = refuse t (Session a b ca cb o) 5 (session_is_6 t pre.0 a b ca cb o pre.4 pre.1 pre.2 pre.3 ga gb h) in
         (is.0 ∙ asked.0, is.1 ∙ asked.1)
-    by-room false h =
+    by_room false h =
         let is = trade.done h in
-        let asked = accept t (Session a b ca cb o) (session-is-0 t pre.0 a b ca cb o pre.4 pre.1 pre.2 pre.3 ga gb h) in
+        let asked = accept t (Session a b ca cb o) (session_is_0 t pre.0 a b ca cb o pre.4 pre.1 pre.2 pre.3 ga gb h) in
         (is.0 ∙ asked.0, is.1 ∙ asked.1)
 
   -- n entries of a summary are lent, and as many of a row of acknowledgements as the form has
-  module _ (n : ℕ) (en : n ≡ count t) (m : ℕ) (em : m ≡ n) (w : ℕ) (ew : w ≡ acksWide (form_of t) n) (sa ka sb kb : List ℕ)
+  module _ (n : ℕ) (en : n ≡ count t) (m : ℕ) (em : m ≡ n) (w : ℕ) (ew : w ≡ acks_wide (form_of t) n) (sa ka sb kb : List ℕ)
       (ea : Starts t a n ca sa ka) (eb : Starts t b n cb sb kb) where
     -- the lent parts of a node's rows are its starting values
     lent : (p c : ℕ) (s k : List ℕ) → Starts t p n c s k → begun t p (take m s) (take w k) (node t p).log ≡ opened p c (node t p)
@@ -51,25 +51,25 @@ module _ (t : List ℕ) (a b ca cb o : ℕ) (pre : Sound t × (a < count t) × (
 
     long :
         (p c : ℕ) → p < count t → (s k : List ℕ) → Starts t p n c s k →
-        (length (take m s) ≡ count t) × (length (take w k) ≡ acksWide (form_of t) (count t))
+        (length (take m s) ≡ count t) × (length (take w k) ≡ acks_wide (form_of t) (count t))
     long p c h s k e =
-        let f = opened-shaped (form_of t) (count t) p (node t p) (node-shaped t pre.0 p h) c in
-        (ap (λ (z : Node). length z.summary) (lent p c s k e) ∙ f.summaryLong, ap (λ (z : Node). length z.acks) (lent p c s k e) ∙ f.acksLong)
+        let f = opened_shaped (form_of t) (count t) p (node t p) (node_shaped t pre.0 p h) c in
+        (ap (λ (z : Node). length z.summary) (lent p c s k e) ∙ f.summary_long, ap (λ (z : Node). length z.acks) (lent p c s k e) ∙ f.acks_long)
 
     alone : (p c : ℕ) → p < count t → (s k : List ℕ) → Starts t p n c s k → OwnOnly t p (take m s) (take w k)
-    alone p c h s k e = rw (em, ew) (own-starts t pre.0 p h n c s k e)
+    alone p c h s k e = rw (em, ew) (own_starts t pre.0 p h n c s k e)
 
     ready : Meets t a b (take m sa) (take w ka) (take m sb) (take w kb)
     ready =
         record {
-          isSound = pre.0;
-          hereA = pre.1;
-          hereB = pre.2;
+          is_sound = pre.0;
+          here_a = pre.1;
+          here_b = pre.2;
           apart = pre.3;
-          longA = long a ca pre.1 sa ka ea;
-          longB = long b cb pre.2 sb kb eb;
-          opensA = alone a ca pre.1 sa ka ea;
-          opensB = alone b cb pre.2 sb kb eb;
+          long_a = long a ca pre.1 sa ka ea;
+          long_b = long b cb pre.2 sb kb eb;
+          opens_a = alone a ca pre.1 sa ka ea;
+          opens_b = alone b cb pre.2 sb kb eb;
         }
 
     done :
@@ -79,10 +79,10 @@ module _ (t : List ℕ) (a b ca cb o : ℕ) (pre : Sound t × (a < count t) × (
         let trade : Traded t o a b (opened a ca (node t a)) (opened b cb (node t b)) r u =
         rw (lent a ca sa ka ea, lent b cb sb kb eb) at e
         in
-        by-room trade (omega arith) (omega arith) (crowded o (opened a ca (node t a)) (opened b cb (node t b))) refl
+        by_room trade (omega arith) (omega arith) (crowded o (opened a ca (node t a)) (opened b cb (node t b))) refl
 
-own-of-requires : tie.Need-own-of-requires
-own-of-requires c κs =
+own_of_requires : tie.Need-own-of-requires
+own_of_requires c κs =
     let start = c.before.before in
     (start.requires.0, start.requires.1)
 
@@ -91,161 +91,161 @@ same_length c = refl
 
 returns : tie.Need-returns
 returns c =
-    let at-own-of = c.before in
-    let start = at-own-of.before.before.before in
+    let at_own_of = c.before in
+    let start = at_own_of.before.before.before in
     back_a start.args.t.now start.args.a start.args.b start.args.ca start.args.cb start.args.outcome start.requires
-    at-own-of.own_of_lem.result at-own-of.own_of_lem.ensures c.if1.true
+    at_own_of.own_of_lem.result at_own_of.own_of_lem.ensures c.if1.true
 
-own-of-requires-2 : tie.Need-own-of-requires-2
-own-of-requires-2 c κs =
+own_of_requires_2 : tie.Need-own-of-requires-2
+own_of_requires_2 c κs =
     let start = c.before.before.before.before.before in
     (start.requires.0, start.requires.2)
 
-same-length-2 : tie.Need-same-length-2
-same-length-2 c = refl
+same_length_2 : tie.Need-same-length-2
+same_length_2 c = refl
 
-returns-2 : tie.Need-returns-2
-returns-2 c =
-    let at-own-of2 = c.before in
-    let start = at-own-of2.before.before.before.before.before.before in
+returns_2 : tie.Need-returns-2
+returns_2 c =
+    let at_own_of2 = c.before in
+    let start = at_own_of2.before.before.before.before.before.before in
     back_b start.args.t.now start.args.a start.args.b start.args.ca start.args.cb start.args.outcome start.requires
-    at-own-of2.own-of2.result at-own-of2.own-of2.ensures c.if2.true
+    at_own_of2.own-of2.result at_own_of2.own-of2.ensures c.if2.true
 
-nodes-of-requires : tie.Need-nodes-of-requires
-nodes-of-requires c κs =
+nodes_of_requires : tie.Need-nodes-of-requires
+nodes_of_requires c κs =
     let start = c.before.before.before.before.before.before.before.before in
     start.requires.0
 
-acks-wide-requires : tie.Need-acks-wide-requires
-acks-wide-requires c κs = search rules
+acks_wide_requires : tie.Need-acks-wide-requires
+acks_wide_requires c κs = search rules
 
-slice-aggregate-opening : tie.Need-slice-aggregate-opening
-slice-aggregate-opening c = search rules
+slice_aggregate_opening : tie.Need-slice-aggregate-opening
+slice_aggregate_opening c = search rules
 
-slice-aggregate-opening-2 : tie.Need-slice-aggregate-opening-2
-slice-aggregate-opening-2 c = search rules
+slice_aggregate_opening_2 : tie.Need-slice-aggregate-opening-2
+slice_aggregate_opening_2 c = search rules
 
-opening-requires : tie.Need-opening-requires
-opening-requires c κs = search rules
+opening_requires : tie.Need-opening-requires
+opening_requires c κs = search rules
 
-slice-aggregate-opening-3 : tie.Need-slice-aggregate-opening-3
-slice-aggregate-opening-3 c = search rules
+slice_aggregate_opening_3 : tie.Need-slice-aggregate-opening-3
+slice_aggregate_opening_3 c = search rules
 
-slice-aggregate-opening-4 : tie.Need-slice-aggregate-opening-4
-slice-aggregate-opening-4 c = search rules
+slice_aggregate_opening_4 : tie.Need-slice-aggregate-opening-4
+slice_aggregate_opening_4 c = search rules
 
-opening-requires-2 : tie.Need-opening-requires-2
-opening-requires-2 c κs = search rules
+opening_requires_2 : tie.Need-opening-requires-2
+opening_requires_2 c κs = search rules
 
-sub-exchange : tie.Need-overflow-sub-exchange
-sub-exchange c = search rules
+sub_exchange : tie.Need-overflow-sub-exchange
+sub_exchange c = search rules
 
-part-exchange-start : tie.Need-slice-bounds-exchange-start
-part-exchange-start c = search rules
+part_exchange_start : tie.Need-slice-bounds-exchange-start
+part_exchange_start c = search rules
 
-part-exchange-end : tie.Need-slice-bounds-exchange-end
-part-exchange-end c = search rules
+part_exchange_end : tie.Need-slice-bounds-exchange-end
+part_exchange_end c = search rules
 
-sub-exchange-2 : tie.Need-overflow-sub-exchange-2
-sub-exchange-2 c = search rules
+sub_exchange_2 : tie.Need-overflow-sub-exchange-2
+sub_exchange_2 c = search rules
 
-part-exchange-start-2 : tie.Need-slice-bounds-exchange-start-2
-part-exchange-start-2 c = search rules
+part_exchange_start_2 : tie.Need-slice-bounds-exchange-start-2
+part_exchange_start_2 c = search rules
 
-part-exchange-end-2 : tie.Need-slice-bounds-exchange-end-2
-part-exchange-end-2 c = search rules
+part_exchange_end_2 : tie.Need-slice-bounds-exchange-end-2
+part_exchange_end_2 c = search rules
 
-sub-exchange-3 : tie.Need-overflow-sub-exchange-3
-sub-exchange-3 c = search rules
+sub_exchange_3 : tie.Need-overflow-sub-exchange-3
+sub_exchange_3 c = search rules
 
-part-exchange-start-3 : tie.Need-slice-bounds-exchange-start-3
-part-exchange-start-3 c = search rules
+part_exchange_start_3 : tie.Need-slice-bounds-exchange-start-3
+part_exchange_start_3 c = search rules
 
-part-exchange-end-3 : tie.Need-slice-bounds-exchange-end-3
-part-exchange-end-3 c = search rules
+part_exchange_end_3 : tie.Need-slice-bounds-exchange-end-3
+part_exchange_end_3 c = search rules
 
-sub-exchange-4 : tie.Need-overflow-sub-exchange-4
-sub-exchange-4 c = search rules
+sub_exchange_4 : tie.Need-overflow-sub-exchange-4
+sub_exchange_4 c = search rules
 
-part-exchange-start-4 : tie.Need-slice-bounds-exchange-start-4
-part-exchange-start-4 c = search rules
+part_exchange_start_4 : tie.Need-slice-bounds-exchange-start-4
+part_exchange_start_4 c = search rules
 
-part-exchange-end-4 : tie.Need-slice-bounds-exchange-end-4
-part-exchange-end-4 c = search rules
+part_exchange_end_4 : tie.Need-slice-bounds-exchange-end-4
+part_exchange_end_4 c = search rules
 
-exchange-requires : tie.Need-exchange-requires
-exchange-requires c κs =
-    let at-lent = c.before.before.before.before.before.before in
-    let at-opening2 = at-lent.before.before.before.before.before in
-    let at-opening = at-opening2.before.before.before.before.before.before in
-    let at-acks-wide = at-opening.before.before.before.before in
-    let at-nodes-of = at-acks-wide.before.before in
-    let at-if2 = at-nodes-of.before.before in
-    let start = at-if2.before.before.before.before.before.before.before in
-    let n = at-nodes-of.nodes-of.result - 0 in
-    let z : n ≡ at-nodes-of.nodes-of.result = omega arith in
-    let w = at-acks-wide.acks-wide.result - 0 in
-    let wide = at-acks-wide.acks-wide.ensures.0 in
+exchange_requires : tie.Need-exchange-requires
+exchange_requires c κs =
+    let at_lent = c.before.before.before.before.before.before in
+    let at_opening2 = at_lent.before.before.before.before.before in
+    let at_opening = at_opening2.before.before.before.before.before.before in
+    let at_acks_wide = at_opening.before.before.before.before in
+    let at_nodes_of = at_acks_wide.before.before in
+    let at_if2 = at_nodes_of.before.before in
+    let start = at_if2.before.before.before.before.before.before.before in
+    let n = at_nodes_of.nodes_of.result - 0 in
+    let z : n ≡ at_nodes_of.nodes_of.result = omega arith in
+    let w = at_acks_wide.acks-wide.result - 0 in
+    let wide = at_acks_wide.acks-wide.ensures.0 in
     ready start.args.t.now start.args.a start.args.b start.args.ca start.args.cb start.args.outcome start.requires
-    at-nodes-of.nodes-of.result at-nodes-of.nodes-of.ensures.0 n z w (omega arith) at-opening.opening.new.0 at-opening.opening.new.1.0
-    at-opening2.opening2.new.0 at-opening2.opening2.new.1.0 at-opening.opening.ensures at-opening2.opening2.ensures
+    at_nodes_of.nodes_of.result at_nodes_of.nodes_of.ensures.0 n z w (omega arith) at_opening.opening.new.0 at_opening.opening.new.1.0
+    at_opening2.opening2.new.0 at_opening2.opening2.new.1.0 at_opening.opening.ensures at_opening2.opening2.ensures
 
-same-length-3 : tie.Need-same-length-3
-same-length-3 c = c.before.before.exchange.auto.0
+same_length_3 : tie.Need-same-length-3
+same_length_3 c = c.before.before.exchange.auto.0
 
-returns-3 : tie.Need-returns-3
-returns-3 c =
-    let at-exchange = c.before.before in
-    let at-lent = at-exchange.before.before.before.before.before.before.before in
-    let at-opening2 = at-lent.before.before.before.before.before in
-    let at-opening = at-opening2.before.before.before.before.before.before in
-    let at-acks-wide = at-opening.before.before.before.before in
-    let at-nodes-of = at-acks-wide.before.before in
-    let at-if2 = at-nodes-of.before.before in
-    let at-own-of2 = at-if2.before in
-    let at-if1 = at-own-of2.before.before in
-    let at-own-of = at-if1.before in
-    let start = at-own-of.before.before.before in
-    let n = at-nodes-of.nodes-of.result - 0 in
-    let z : n ≡ at-nodes-of.nodes-of.result = omega arith in
-    let w = at-acks-wide.acks-wide.result - 0 in
-    let wide = at-acks-wide.acks-wide.ensures.0 in
+returns_3 : tie.Need-returns-3
+returns_3 c =
+    let at_exchange = c.before.before in
+    let at_lent = at_exchange.before.before.before.before.before.before.before in
+    let at_opening2 = at_lent.before.before.before.before.before in
+    let at_opening = at_opening2.before.before.before.before.before.before in
+    let at_acks_wide = at_opening.before.before.before.before in
+    let at_nodes_of = at_acks_wide.before.before in
+    let at_if2 = at_nodes_of.before.before in
+    let at_own_of2 = at_if2.before in
+    let at_if1 = at_own_of2.before.before in
+    let at_own_of = at_if1.before in
+    let start = at_own_of.before.before.before in
+    let n = at_nodes_of.nodes_of.result - 0 in
+    let z : n ≡ at_nodes_of.nodes_of.result = omega arith in
+    let w = at_acks_wide.acks-wide.result - 0 in
+    let wide = at_acks_wide.acks-wide.ensures.0 in
     done start.args.t.now start.args.a start.args.b start.args.ca start.args.cb start.args.outcome start.requires
-    at-nodes-of.nodes-of.result at-nodes-of.nodes-of.ensures.0 n z w (omega arith) at-opening.opening.new.0 at-opening.opening.new.1.0
-    at-opening2.opening2.new.0 at-opening2.opening2.new.1.0 at-opening.opening.ensures at-opening2.opening2.ensures
-    at-own-of.own_of_lem.result at-own-of2.own-of2.result at-own-of.own_of_lem.ensures at-if1.if1.false at-own-of2.own-of2.ensures
-    at-if2.if2.false at-exchange.exchange.ensures
+    at_nodes_of.nodes_of.result at_nodes_of.nodes_of.ensures.0 n z w (omega arith) at_opening.opening.new.0 at_opening.opening.new.1.0
+    at_opening2.opening2.new.0 at_opening2.opening2.new.1.0 at_opening.opening.ensures at_opening2.opening2.ensures
+    at_own_of.own_of_lem.result at_own_of2.own-of2.result at_own_of.own_of_lem.ensures at_if1.if1.false at_own_of2.own-of2.ensures
+    at_if2.if2.false at_exchange.exchange.ensures
 
-pub meet-spec : {M : Type 1} → statement M
-meet-spec =
+pub meet_spec : {M : Type 1} → statement M
+meet_spec =
     tie.close
     (tie.spec
-    own-of-requires
+    own_of_requires
     same_length
     returns
-    own-of-requires-2
-    same-length-2
-    returns-2
-    nodes-of-requires
-    acks-wide-requires
-    slice-aggregate-opening
-    slice-aggregate-opening-2
-    opening-requires
-    slice-aggregate-opening-3
-    slice-aggregate-opening-4
-    opening-requires-2
-    sub-exchange
-    part-exchange-start
-    part-exchange-end
-    sub-exchange-2
-    part-exchange-start-2
-    part-exchange-end-2
-    sub-exchange-3
-    part-exchange-start-3
-    part-exchange-end-3
-    sub-exchange-4
-    part-exchange-start-4
-    part-exchange-end-4
-    exchange-requires
-    same-length-3
-    returns-3)
+    own_of_requires_2
+    same_length_2
+    returns_2
+    nodes_of_requires
+    acks_wide_requires
+    slice_aggregate_opening
+    slice_aggregate_opening_2
+    opening_requires
+    slice_aggregate_opening_3
+    slice_aggregate_opening_4
+    opening_requires_2
+    sub_exchange
+    part_exchange_start
+    part_exchange_end
+    sub_exchange_2
+    part_exchange_start_2
+    part_exchange_end_2
+    sub_exchange_3
+    part_exchange_start_3
+    part_exchange_end_3
+    sub_exchange_4
+    part_exchange_start_4
+    part_exchange_end_4
+    exchange_requires
+    same_length_3
+    returns_3)

@@ -8,33 +8,33 @@ use borrow.Author.Tests.{not-true, not-false, ltb-false}
 use lib.ListN.{length}
 use Rattle.meaning.specs.declared.Record.{Record}
 use Rattle.meaning.specs.Rows.{newer, words}
-use Rattle.meaning.specs.Table.{form_of, formWords, nodesMost, logMost, held, place, heldAt, log_at}
+use Rattle.meaning.specs.Table.{form_of, form_words, nodes_most, log_most, held, place, held_at, log_at}
 use Rattle.meaning.proofs.PutLaws.{grown-none}
-use Rattle.logs.specs.Carry.{logRecords, CarriesAll, Puts}
-use Rattle.openings.specs.Begun.{crowds, heldLog}
-use Rattle.openings.proofs.LogLaws.{right-log}
+use Rattle.logs.specs.Carry.{log_records, CarriesAll, Puts}
+use Rattle.openings.specs.Begun.{crowds, held_log}
+use Rattle.openings.proofs.LogLaws.{right_log}
 use Rattle.sides.specs.Ended.{Takes, Took}
 use borrow.Author.Rules.{rules}
 use Rattle.sides.proofs.take.Statement.{statement}
 use Rattle.sides.proofs.take.Tie as tie
 
 module _ {t : List ℕ} {f : Bool} {p q : ℕ} {known : List ℕ} {had shown : ℕ} (s : Takes t f p q known had shown) where
-  nodes : (p < nodesMost) × (q < nodesMost) × (length t ≡ formWords (form_of t))
+  nodes : (p < nodes_most) × (q < nodes_most) × (length t ≡ form_words (form_of t))
   nodes =
-      let h = s.isSound.high in
+      let h = s.is_sound.high in
       let a = s.here in
       let b = s.there in
-      (omega arith, omega arith, s.isSound.long)
+      (omega arith, omega arith, s.is_sound.long)
 
-  most : (had ≤ logMost) × (shown ≤ logMost)
+  most : (had ≤ log_most) × (shown ≤ log_most)
   most =
-      let a = s.isSound.room p s.here in
-      let b = s.isSound.room q s.there in
+      let a = s.is_sound.room p s.here in
+      let b = s.is_sound.room q s.there in
       let d = s.mine in
       let e = s.theirs in
       (omega arith, omega arith)
 
-  inside : log_at (form_of t) p + 4 * logMost ≤ length t
+  inside : log_at (form_of t) p + 4 * log_most ≤ length t
   inside =
       let o = nodes in
       let l = o.2 in
@@ -43,13 +43,13 @@ module _ {t : List ℕ} {f : Bool} {p q : ℕ} {known : List ℕ} {had shown : �
   none : f ≡ false → Took t f p q known had shown had t
   none e =
       let m = most.0 in
-      rw e (record { total = omega arith; most = m; leaves = sym (grown-none t s.isSound p s.here) })
+      rw e (record { total = omega arith; most = m; leaves = sym (grown-none t s.is_sound p s.here) })
 
   module _ (on : f ≡ true) where
-    fits : had + length (newer known (heldLog t q shown)) ≤ logMost
+    fits : had + length (newer known (held_log t q shown)) ≤ log_most
     fits =
-        ltb-false logMost (had + length (newer known (heldLog t q shown)))
-        (ap (λ (b : Bool). crowds b known had (heldLog t q shown)) (sym on) ∙ s.room)
+        ltb-false log_most (had + length (newer known (held_log t q shown)))
+        (ap (λ (b : Bool). crowds b known had (held_log t q shown)) (sym on) ∙ s.room)
 
     ready : (from to : ℕ) → from ≡ log_at (form_of t) q → to ≡ log_at (form_of t) p → CarriesAll t from shown (to + 4 * had) known
     ready from to ef et =
@@ -63,24 +63,24 @@ module _ {t : List ℕ} {f : Bool} {p q : ℕ} {known : List ℕ} {had shown : �
         (record {
           inside = omega arith;
           below = m;
-          known = rw s.long (right-log t s.isSound q shown s.there s.theirs);
+          known = rw s.long (right_log t s.is_sound q shown s.there s.theirs);
           fits = omega arith;
           apart = λ x y. s.apart (omega arith);
         })
 
-    bound : {at from taken : ℕ} {u : List ℕ} → Puts at (newer known (logRecords from shown t)) t taken u → from ≡ log_at (form_of t) q → had + taken ≤ logMost
+    bound : {at from taken : ℕ} {u : List ℕ} → Puts at (newer known (log_records from shown t)) t taken u → from ≡ log_at (form_of t) q → had + taken ≤ log_most
     bound {taken} put ef =
-        let e : taken ≡ length (newer known (heldLog t q shown)) = put.many ∙ ap (λ (i : ℕ). length (newer known (logRecords i shown t))) ef in
+        let e : taken ≡ length (newer known (held_log t q shown)) = put.many ∙ ap (λ (i : ℕ). length (newer known (log_records i shown t))) ef in
         let h = fits in
         omega arith
 
     whole :
-        {to from taken : ℕ} {u : List ℕ} → Puts (to + 4 * had) (newer known (logRecords from shown t)) t taken u →
-        from ≡ log_at (form_of t) q → to ≡ log_at (form_of t) p → (at : ℕ) (v : List ℕ) → at ≡ heldAt (form_of t) p → v ≡ place at ((had + taken) ∷ []) u →
+        {to from taken : ℕ} {u : List ℕ} → Puts (to + 4 * had) (newer known (log_records from shown t)) t taken u →
+        from ≡ log_at (form_of t) q → to ≡ log_at (form_of t) p → (at : ℕ) (v : List ℕ) → at ≡ held_at (form_of t) p → v ≡ place at ((had + taken) ∷ []) u →
         Took t f p q known had shown (had + taken) v
     whole {to} {from} {taken} {u} put ef et at v ea ev =
-        let new : List Record = newer known (heldLog t q shown) in
-        let same : newer known (logRecords from shown t) ≡ new = ap (λ (i : ℕ). newer known (logRecords i shown t)) ef in
+        let new : List Record = newer known (held_log t q shown) in
+        let same : newer known (log_records from shown t) ≡ new = ap (λ (i : ℕ). newer known (log_records i shown t)) ef in
         let many : taken ≡ length new = put.many ∙ ap length same in
         let behind : to + 4 * had ≡ log_at (form_of t) p + 4 * held t p = ap₂ (λ (a b : ℕ). a + 4 * b) et s.mine in
         let log : u ≡ place (log_at (form_of t) p + 4 * held t p) (words new) t =
@@ -94,7 +94,7 @@ module _ {t : List ℕ} {f : Bool} {p q : ℕ} {known : List ℕ} {had shown : �
           most = h;
           leaves =
               ev ∙ ap₂ (λ (i : ℕ) (z : List ℕ). place i ((had + taken) ∷ []) z) ea log ∙
-              ap (λ (i : ℕ). place (heldAt (form_of t) p) (i ∷ []) (place (log_at (form_of t) p + 4 * held t p) (words new) t)) number;
+              ap (λ (i : ℕ). place (held_at (form_of t) p) (i ∷ []) (place (log_at (form_of t) p + 4 * held t p) (words new) t)) number;
         })
 
 returns : tie.Need-returns
@@ -102,100 +102,100 @@ returns c =
     let start = c.before.before.before in
     none start.requires (not-true start.args.finishes c.if1.true)
 
-held-at-requires : tie.Need-held-at-requires
-held-at-requires c κs = search rules
+held_at_requires : tie.Need-held-at-requires
+held_at_requires c κs = search rules
 
-log-at-requires : tie.Need-log-at-requires
-log-at-requires c κs = search rules
+log_at_requires : tie.Need-log-at-requires
+log_at_requires c κs = search rules
 
-log-at-requires-2 : tie.Need-log-at-requires-2
-log-at-requires-2 c κs = search rules
+log_at_requires_2 : tie.Need-log-at-requires-2
+log_at_requires_2 c κs = search rules
 
-mul-to : tie.Need-overflow-mul-to
-mul-to c =
-    let at-if1 = c.before.before.before.before.before.before in
-    let start = at-if1.before.before.before in
+mul_to : tie.Need-overflow-mul-to
+mul_to c =
+    let at_if1 = c.before.before.before.before.before.before in
+    let start = at_if1.before.before.before in
     let few = (most start.requires).0 in
     omega arith
 
-add-to : tie.Need-overflow-add-to
-add-to c =
-    let at-if1 = c.before.before.before.before.before.before in
-    let start = at-if1.before.before.before in
+add_to : tie.Need-overflow-add-to
+add_to c =
+    let at_if1 = c.before.before.before.before.before.before in
+    let start = at_if1.before.before.before in
     let few = (most start.requires).0 in
     let ends = inside start.requires in
     let at = c.log-at2.ensures in
     omega arith
 
-carry-requires : tie.Need-carry-requires
-carry-requires c κs =
-    let at-log-at2 = c.before in
-    let at-log-at = at-log-at2.before.before in
-    let at-if1 = at-log-at.before.before.before.before in
-    let start = at-if1.before.before.before in
-    ready start.requires (not-false start.args.finishes at-if1.if1.false) at-log-at.log-at.result at-log-at2.log-at2.result
-    at-log-at.log-at.ensures at-log-at2.log-at2.ensures
+carry_requires : tie.Need-carry-requires
+carry_requires c κs =
+    let at_log_at2 = c.before in
+    let at_log_at = at_log_at2.before.before in
+    let at_if1 = at_log_at.before.before.before.before in
+    let start = at_if1.before.before.before in
+    ready start.requires (not-false start.args.finishes at_if1.if1.false) at_log_at.log-at.result at_log_at2.log-at2.result
+    at_log_at.log-at.ensures at_log_at2.log-at2.ensures
 
-add-put-word : tie.Need-overflow-add-put-word
-add-put-word c =
-    let at-carry = c.before.before.before in
-    let at-log-at = at-carry.before.before.before.before in
-    let at-if1 = at-log-at.before.before.before.before in
-    let start = at-if1.before.before.before in
-    let fits = bound start.requires (not-false start.args.finishes at-if1.if1.false) at-carry.carry.ensures at-log-at.log-at.ensures in
+add_put_word : tie.Need-overflow-add-put-word
+add_put_word c =
+    let at_carry = c.before.before.before in
+    let at_log_at = at_carry.before.before.before.before in
+    let at_if1 = at_log_at.before.before.before.before in
+    let start = at_if1.before.before.before in
+    let fits = bound start.requires (not-false start.args.finishes at_if1.if1.false) at_carry.carry.ensures at_log_at.log-at.ensures in
     omega arith
 
-cast-put-word : tie.Need-overflow-cast-put-word
-cast-put-word c =
-    let at-carry = c.before.before.before in
-    let at-log-at = at-carry.before.before.before.before in
-    let at-if1 = at-log-at.before.before.before.before in
-    let start = at-if1.before.before.before in
-    let fits = bound start.requires (not-false start.args.finishes at-if1.if1.false) at-carry.carry.ensures at-log-at.log-at.ensures in
+cast_put_word : tie.Need-overflow-cast-put-word
+cast_put_word c =
+    let at_carry = c.before.before.before in
+    let at_log_at = at_carry.before.before.before.before in
+    let at_if1 = at_log_at.before.before.before.before in
+    let start = at_if1.before.before.before in
+    let fits = bound start.requires (not-false start.args.finishes at_if1.if1.false) at_carry.carry.ensures at_log_at.log-at.ensures in
     omega arith
 
-put-word-requires : tie.Need-put-word-requires
-put-word-requires c κs = search rules
+put_word_requires : tie.Need-put-word-requires
+put_word_requires c κs = search rules
 
-add-result : tie.Need-overflow-add-result
-add-result c =
-    let at-carry = c.before.before.before.before.before.before in
-    let at-log-at = at-carry.before.before.before.before in
-    let at-if1 = at-log-at.before.before.before.before in
-    let start = at-if1.before.before.before in
-    let fits = bound start.requires (not-false start.args.finishes at-if1.if1.false) at-carry.carry.ensures at-log-at.log-at.ensures in
+add_result : tie.Need-overflow-add-result
+add_result c =
+    let at_carry = c.before.before.before.before.before.before in
+    let at_log_at = at_carry.before.before.before.before in
+    let at_if1 = at_log_at.before.before.before.before in
+    let start = at_if1.before.before.before in
+    let fits = bound start.requires (not-false start.args.finishes at_if1.if1.false) at_carry.carry.ensures at_log_at.log-at.ensures in
     omega arith
 
 same_length : tie.Need-same-length
 same_length c = search rules
 
-returns-2 : tie.Need-returns-2
-returns-2 c =
-    let at-put-word = c.before.before in
-    let at-carry = at-put-word.before.before.before.before in
-    let at-log-at2 = at-carry.before.before in
-    let at-log-at = at-log-at2.before.before in
-    let at-held-at = at-log-at.before.before in
-    let at-if1 = at-held-at.before.before in
-    let start = at-if1.before.before.before in
-    whole start.requires (not-false start.args.finishes at-if1.if1.false) at-carry.carry.ensures at-log-at.log-at.ensures
-    at-log-at2.log-at2.ensures at-held-at.held_at.result at-put-word.put_word.new.0 at-held-at.held_at.ensures
-    at-put-word.put_word.ensures
+returns_2 : tie.Need-returns-2
+returns_2 c =
+    let at_put_word = c.before.before in
+    let at_carry = at_put_word.before.before.before.before in
+    let at_log_at2 = at_carry.before.before in
+    let at_log_at = at_log_at2.before.before in
+    let at_held_at = at_log_at.before.before in
+    let at_if1 = at_held_at.before.before in
+    let start = at_if1.before.before.before in
+    whole start.requires (not-false start.args.finishes at_if1.if1.false) at_carry.carry.ensures at_log_at.log-at.ensures
+    at_log_at2.log-at2.ensures at_held_at.held_at.result at_put_word.put_word.new.0 at_held_at.held_at.ensures
+    at_put_word.put_word.ensures
 
 pub take_spec : {M : Type 1} → statement M
 take_spec =
     tie.close
     (tie.spec
     returns
-    held-at-requires
-    log-at-requires
-    log-at-requires-2
-    mul-to
-    add-to
-    carry-requires
-    add-put-word
-    cast-put-word
-    put-word-requires
-    add-result
+    held_at_requires
+    log_at_requires
+    log_at_requires_2
+    mul_to
+    add_to
+    carry_requires
+    add_put_word
+    cast_put_word
+    put_word_requires
+    add_result
     same_length
-    returns-2)
+    returns_2)

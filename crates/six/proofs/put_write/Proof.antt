@@ -3,14 +3,14 @@ use mathlib.Core.Path.{◌≡◌, sym, ◌∙◌}
 use native.Mathlib.Omega.{arith}
 use Rattle.meaning.proofs.FrameLaws.{good, clear}
 use Rattle.digits.specs.Digits.{sum_of}
-use Rattle.heads.proofs.QuickLaws.{write-good, good-write}
-use Rattle.six.proofs.SixLaws.{puts-not, puts-is, joins-12, six-write}
+use Rattle.heads.proofs.QuickLaws.{write_good, good_write}
+use Rattle.six.proofs.SixLaws.{puts_not, puts_is, joins_12, six_write}
 use borrow.Author.Rules.{rules}
 use Rattle.six.proofs.put_write.Statement.{statement}
 use Rattle.six.proofs.put_write.Tie as tie
 
-shared-slice-read-if1 : tie.Need-shared-slice-read-if1
-shared-slice-read-if1 c = search rules
+shared_slice_read_if1 : tie.Need-shared-slice-read-if1
+shared_slice_read_if1 c = search rules
 
 returns : tie.Need-returns
 returns c =
@@ -18,82 +18,82 @@ returns c =
     let s = start.args.s.now in
     let words = start.args.words.now in
     let long = start.requires.0 in
-    puts-not s words (λ z. c.if1.true (good-write s long (good s z)).0)
+    puts_not s words (λ z. c.if1.true (good_write s long (good s z)).0)
 
-shared-slice-read-if2 : tie.Need-shared-slice-read-if2
-shared-slice-read-if2 c = search rules
+shared_slice_read_if2 : tie.Need-shared-slice-read-if2
+shared_slice_read_if2 c = search rules
 
-returns-2 : tie.Need-returns-2
-returns-2 c =
-    let at-if1 = c.before.before in
-    let start = at-if1.before.before.before.before in
+returns_2 : tie.Need-returns-2
+returns_2 c =
+    let at_if1 = c.before.before in
+    let start = at_if1.before.before.before.before in
     let s = start.args.s.now in
     let words = start.args.words.now in
     let long = start.requires.0 in
-    puts-not s words (λ z. c.if2.true (good-write s long (good s z)).1)
+    puts_not s words (λ z. c.if2.true (good_write s long (good s z)).1)
 
-slice-aggregate-values : tie.Need-slice-aggregate-values
-slice-aggregate-values c = search rules
+slice_aggregate_values : tie.Need-slice-aggregate-values
+slice_aggregate_values c = search rules
 
-values-requires : tie.Need-values-requires
-values-requires c κs = search rules
+values_requires : tie.Need-values-requires
+values_requires c κs = search rules
 
-returns-3 : tie.Need-returns-3
-returns-3 c =
-    let at-values = c.before.before in
-    let at-if2 = at-values.before.before in
-    let at-if1 = at-if2.before.before in
-    let start = at-if1.before.before.before.before in
+returns_3 : tie.Need-returns-3
+returns_3 c =
+    let at_values = c.before.before in
+    let at_if2 = at_values.before.before in
+    let at_if1 = at_if2.before.before in
+    let start = at_if1.before.before.before.before in
     let s = start.args.s.now in
     let words = start.args.words.now in
     let long = start.requires.0 in
-    puts-not s words (λ z. c.if3.true (at-values.values.ensures.0 ∙ sym (good-write s long (good s z)).2))
+    puts_not s words (λ z. c.if3.true (at_values.values.ensures.0 ∙ sym (good_write s long (good s z)).2))
 
-slice-aggregate-put-written : tie.Need-slice-aggregate-put-written
-slice-aggregate-put-written c = search rules
+slice_aggregate_put_written : tie.Need-slice-aggregate-put-written
+slice_aggregate_put_written c = search rules
 
-put-written-requires : tie.Need-put-written-requires
-put-written-requires c κs =
-    let at-if3 = c.before.before in
-    let at-values = at-if3.before.before in
-    let at-if1 = at-values.before.before.before.before in
-    let start = at-if1.before.before.before.before in
-    let values = at-values.values in
-    let joins = joins-12 start.args.s.now values.new.1.0 values.result start.requires.0 values.ensures.0 (omega (arith, at-if3.if3.false))
+put_written_requires : tie.Need-put-written-requires
+put_written_requires c κs =
+    let at_if3 = c.before.before in
+    let at_values = at_if3.before.before in
+    let at_if1 = at_values.before.before.before.before in
+    let start = at_if1.before.before.before.before in
+    let values = at_values.values in
+    let joins = joins_12 start.args.s.now values.new.1.0 values.result start.requires.0 values.ensures.0 (omega (arith, at_if3.if3.false))
     values.ensures.1 in
     (joins, start.requires.1)
 
 same_length : tie.Need-same-length
 same_length c = search rules
 
-returns-4 : tie.Need-returns-4
-returns-4 c =
-    let at-put = c.before.before in
-    let at-if3 = at-put.before.before.before in
-    let at-values = at-if3.before.before in
-    let at-if2 = at-values.before.before in
-    let at-if1 = at-if2.before.before in
-    let start = at-if1.before.before.before.before in
+returns_4 : tie.Need-returns-4
+returns_4 c =
+    let at_put = c.before.before in
+    let at_if3 = at_put.before.before.before in
+    let at_values = at_if3.before.before in
+    let at_if2 = at_values.before.before in
+    let at_if1 = at_if2.before.before in
+    let start = at_if1.before.before.before.before in
     let s = start.args.s.now in
     let words = start.args.words.now in
     let long = start.requires.0 in
-    let values = at-values.values in
-    let zero : 0 ≡ sum_of s = sym at-if3.if3.false ∙ values.ensures.0 in
-    puts-is s words at-put.Put-written.new.1.0 (clear s (write-good s long at-if1.if1.false at-if2.if2.false zero))
-    (at-put.Put-written.ensures ∙ six-write s values.new.1.0 long at-if1.if1.false at-if2.if2.false zero values.ensures.1)
+    let values = at_values.values in
+    let zero : 0 ≡ sum_of s = sym at_if3.if3.false ∙ values.ensures.0 in
+    puts_is s words at_put.Put-written.new.1.0 (clear s (write_good s long at_if1.if1.false at_if2.if2.false zero))
+    (at_put.Put-written.ensures ∙ six_write s values.new.1.0 long at_if1.if1.false at_if2.if2.false zero values.ensures.1)
 
-pub put-write-spec : {M : Type 1} → statement M
-put-write-spec =
+pub put_write_spec : {M : Type 1} → statement M
+put_write_spec =
     tie.close
     (tie.spec
-    shared-slice-read-if1
+    shared_slice_read_if1
     returns
-    shared-slice-read-if2
-    returns-2
-    slice-aggregate-values
-    values-requires
-    returns-3
-    slice-aggregate-put-written
-    put-written-requires
+    shared_slice_read_if2
+    returns_2
+    slice_aggregate_values
+    values_requires
+    returns_3
+    slice_aggregate_put_written
+    put_written_requires
     same_length
-    returns-4)
+    returns_4)

@@ -16,8 +16,8 @@ above origin n h = rw (le-ltb origin n h)
 returns : tie.Need-returns
 returns c = below c.before.args.origin c.before.args.n c.if1.true
 
-returns-2 : tie.Need-returns-2
-returns-2 c = above c.before.args.origin c.before.args.n c.if1.false
+returns_2 : tie.Need-returns-2
+returns_2 c = above c.before.args.origin c.before.args.n c.if1.false
 
-pub beyond-spec : {M : Type 1} → statement M
-beyond-spec = tie.close (tie.spec returns returns-2)
+pub beyond_spec : {M : Type 1} → statement M
+beyond_spec = tie.close (tie.spec returns returns_2)

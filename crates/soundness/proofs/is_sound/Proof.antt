@@ -7,60 +7,60 @@ use borrow.Author.Rules.{rules}
 use borrow.Author.Tests.{eqb-true, eqb-false, not-true, not-false}
 use native.Mathlib.Omega.{arith}
 use lib.ListN.{length}
-use Rattle.meaning.specs.Table.{form_of, formWords, lengthRight}
-use Rattle.meaning.proofs.SoundLaws.{unsound-length, unsound-few, unsound-many, sound-logs}
+use Rattle.meaning.specs.Table.{form_of, form_words, length_right}
+use Rattle.meaning.proofs.SoundLaws.{unsound_length, unsound_few, unsound_many, sound_logs}
 use Rattle.soundness.proofs.is_sound.Statement.{statement}
 use Rattle.soundness.proofs.is_sound.Tie as tie
 
 -- what the test of the length says where it passes
-long : (t : List ℕ) (r : Bool) → r ≡ lengthRight t → not r ≡ false → length t ≡ formWords (form_of t)
+long : (t : List ℕ) (r : Bool) → r ≡ length_right t → not r ≡ false → length t ≡ form_words (form_of t)
 long t r e passed = eqb-true _ _ (sym e ∙ not-false r passed)
 
-is-long-requires : tie.Need-is-long-requires
-is-long-requires c κs = search rules
+is_long_requires : tie.Need-is-long-requires
+is_long_requires c κs = search rules
 
 returns : tie.Need-returns
 returns c =
     let at_long = c.before in
-    unsound-length _ (eqb-false _ _ (sym at_long.is-long.ensures ∙ not-true at_long.is-long.result c.if1.true))
+    unsound_length _ (eqb-false _ _ (sym at_long.is_long.ensures ∙ not-true at_long.is_long.result c.if1.true))
 
-count-of-requires : tie.Need-count-of-requires
-count-of-requires c κs = long _ c.before.is-long.result c.before.is-long.ensures c.if1.false
+count_of_requires : tie.Need-count-of-requires
+count_of_requires c κs = long _ c.before.is_long.result c.before.is_long.ensures c.if1.false
 
-returns-2 : tie.Need-returns-2
-returns-2 c =
+returns_2 : tie.Need-returns-2
+returns_2 c =
     let at_count = c.before in
-    let at-if1 = at_count.before in
-    let right = long _ at-if1.before.is-long.result at-if1.before.is-long.ensures at-if1.if1.false in
-    unsound-few _ _ right at_count.count_of.ensures c.if2.true
+    let at_if1 = at_count.before in
+    let right = long _ at_if1.before.is_long.result at_if1.before.is_long.ensures at_if1.if1.false in
+    unsound_few _ _ right at_count.count_of.ensures c.if2.true
 
-cast-if3 : tie.Need-overflow-cast-if3
-cast-if3 c = search rules
+cast_if3 : tie.Need-overflow-cast-if3
+cast_if3 c = search rules
 
-returns-3 : tie.Need-returns-3
-returns-3 c =
-    let at-if2 = c.before in
-    let at_count = at-if2.before in
-    let at-if1 = at_count.before in
-    let right = long _ at-if1.before.is-long.result at-if1.before.is-long.ensures at-if1.if1.false in
-    unsound-many _ _ right at_count.count_of.ensures at-if2.if2.false c.if3.true
+returns_3 : tie.Need-returns-3
+returns_3 c =
+    let at_if2 = c.before in
+    let at_count = at_if2.before in
+    let at_if1 = at_count.before in
+    let right = long _ at_if1.before.is_long.result at_if1.before.is_long.ensures at_if1.if1.false in
+    unsound_many _ _ right at_count.count_of.ensures at_if2.if2.false c.if3.true
 
-logs-sound-requires : tie.Need-logs-sound-requires
-logs-sound-requires c κs =
+logs_sound_requires : tie.Need-logs-sound-requires
+logs_sound_requires c κs =
     let at_count = c.before.before in
-    let at-if1 = at_count.before in
-    (long _ at-if1.before.is-long.result at-if1.before.is-long.ensures at-if1.if1.false, at_count.count_of.ensures, omega arith)
+    let at_if1 = at_count.before in
+    (long _ at_if1.before.is_long.result at_if1.before.is_long.ensures at_if1.if1.false, at_count.count_of.ensures, omega arith)
 
-returns-4 : tie.Need-returns-4
-returns-4 c =
-    let at-if3 = c.before in
-    let at-if2 = at-if3.before in
-    let at_count = at-if2.before in
-    let at-if1 = at_count.before in
-    let right = long _ at-if1.before.is-long.result at-if1.before.is-long.ensures at-if1.if1.false in
-    sound-logs _ _ _ right at_count.count_of.ensures at-if2.if2.false at-if3.if3.false c.logs-sound.ensures
+returns_4 : tie.Need-returns-4
+returns_4 c =
+    let at_if3 = c.before in
+    let at_if2 = at_if3.before in
+    let at_count = at_if2.before in
+    let at_if1 = at_count.before in
+    let right = long _ at_if1.before.is_long.result at_if1.before.is_long.ensures at_if1.if1.false in
+    sound_logs _ _ _ right at_count.count_of.ensures at_if2.if2.false at_if3.if3.false c.logs-sound.ensures
 
-pub is-sound-spec : {M : Type 1} → statement M
-is-sound-spec =
+pub is_sound_spec : {M : Type 1} → statement M
+is_sound_spec =
     tie.close
-    (tie.spec is-long-requires returns count-of-requires returns-2 cast-if3 returns-3 logs-sound-requires returns-4)
+    (tie.spec is_long_requires returns count_of_requires returns_2 cast_if3 returns_3 logs_sound_requires returns_4)

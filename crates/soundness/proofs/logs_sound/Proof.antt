@@ -6,54 +6,54 @@ use native.Mathlib.Omega.{arith}
 use borrow.Author.Rules.{rules}
 use borrow.Author.Tests.{not-true, not-false}
 use Rattle.meaning.specs.Rows.{every}
-use Rattle.meaning.specs.Table.{logSound}
-use Rattle.meaning.proofs.SoundLaws.{every-none, every-last, every-whole, every-not}
+use Rattle.meaning.specs.Table.{log_sound}
+use Rattle.meaning.proofs.SoundLaws.{every-none, every_last, every_whole, every_not}
 use Rattle.soundness.proofs.logs_sound.Statement.{statement}
 use Rattle.soundness.proofs.logs_sound.Tie as tie
 
-abbrev invariant-loop : tie.invariant-loop
-invariant-loop t n nodes p₀ p = (p ≤ n) × (every p (logSound t) ≡ true)
+abbrev invariant_loop : tie.invariant_loop
+invariant_loop t n nodes p₀ p = (p ≤ n) × (every p (log_sound t) ≡ true)
 
-abbrev decreases-loop : tie.decreases-loop
-decreases-loop t n nodes p₀ p = n - p
+abbrev decreases_loop : tie.decreases_loop
+decreases_loop t n nodes p₀ p = n - p
 
-loop-holds : tie.Need-loop-init invariant-loop decreases-loop
-loop-holds c = (omega arith, every-none _)
+loop_holds : tie.Need-loop-init invariant_loop decreases_loop
+loop_holds c = (omega arith, every-none _)
 
-log-sound-requires : tie.Need-log-sound-requires invariant-loop decreases-loop
-log-sound-requires c κs = search rules
+log_sound_requires : tie.Need-log-sound-requires invariant_loop decreases_loop
+log_sound_requires c κs = search rules
 
-returns : tie.Need-returns invariant-loop decreases-loop
+returns : tie.Need-returns invariant_loop decreases_loop
 returns c =
-    let at-log-sound = c.before in
-    let at-loop-test = at-log-sound.before in
-    sym (every-not _ _ _ at-loop-test.loop-test.true (sym at-log-sound.log-sound.ensures ∙ not-true at-log-sound.log-sound.result c.if1.true))
+    let at_log_sound = c.before in
+    let at_loop_test = at_log_sound.before in
+    sym (every_not _ _ _ at_loop_test.loop-test.true (sym at_log_sound.log-sound.ensures ∙ not-true at_log_sound.log-sound.result c.if1.true))
 
-add-p : tie.Need-overflow-add-p invariant-loop decreases-loop
-add-p c = omega arith
+add_p : tie.Need-overflow-add-p invariant_loop decreases_loop
+add_p c = omega arith
 
-loop-less : tie.Need-loop-smaller invariant-loop decreases-loop
-loop-less c = omega arith
+loop_less : tie.Need-loop-smaller invariant_loop decreases_loop
+loop_less c = omega arith
 
-loop-again : tie.Need-loop-preserved invariant-loop decreases-loop
-loop-again c =
-    let at-log-sound = c.before in
-    let at-loop = at-log-sound.before.before in
-    (omega arith, every-last _ _ at-loop.loop.invariant.1 (sym at-log-sound.log-sound.ensures ∙ not-false at-log-sound.log-sound.result c.if1.false))
+loop_again : tie.Need-loop-preserved invariant_loop decreases_loop
+loop_again c =
+    let at_log_sound = c.before in
+    let at_loop = at_log_sound.before.before in
+    (omega arith, every_last _ _ at_loop.loop.invariant.1 (sym at_log_sound.log-sound.ensures ∙ not-false at_log_sound.log-sound.result c.if1.false))
 
-returns-2 : tie.Need-returns-2 invariant-loop decreases-loop
-returns-2 c = every-whole _ _ _ c.before.loop.invariant.0 (omega arith) c.before.loop.invariant.1
+returns_2 : tie.Need-returns-2 invariant_loop decreases_loop
+returns_2 c = every_whole _ _ _ c.before.loop.invariant.0 (omega arith) c.before.loop.invariant.1
 
-pub logs-sound-spec : {M : Type 1} → statement M
-logs-sound-spec =
+pub logs_sound_spec : {M : Type 1} → statement M
+logs_sound_spec =
     tie.close
     (tie.spec
-    invariant-loop
-    decreases-loop
-    loop-holds
-    log-sound-requires
+    invariant_loop
+    decreases_loop
+    loop_holds
+    log_sound_requires
     returns
-    add-p
-    loop-less
-    loop-again
-    returns-2)
+    add_p
+    loop_less
+    loop_again
+    returns_2)

@@ -2,80 +2,80 @@
 use mathlib.Core.Path.{◌∙◌, ap}
 use native.Mathlib.Omega.{arith}
 use Rattle.heads.specs.Heads.{short_of}
-use Rattle.heads.proofs.HeadLaws.{six-of}
-use Rattle.steplines.proofs.StepLineLaws.{short-unsure, delivery-turned}
+use Rattle.heads.proofs.HeadLaws.{six_of}
+use Rattle.steplines.proofs.StepLineLaws.{short_unsure, delivery_turned}
 use borrow.Author.Rules.{rules}
 use Rattle.steplines.proofs.deliver_line.Statement.{statement}
 use Rattle.steplines.proofs.deliver_line.Tie as tie
 
-shared-slice-read-short-line : tie.Need-shared-slice-read-short-line
-shared-slice-read-short-line c = search rules
+shared_slice_read_short_line : tie.Need-shared-slice-read-short-line
+shared_slice_read_short_line c = search rules
 
-shared-slice-read-short-line-2 : tie.Need-shared-slice-read-short-line-2
-shared-slice-read-short-line-2 c = search rules
+shared_slice_read_short_line_2 : tie.Need-shared-slice-read-short-line-2
+shared_slice_read_short_line_2 c = search rules
 
-shared-slice-read-short-line-3 : tie.Need-shared-slice-read-short-line-3
-shared-slice-read-short-line-3 c = search rules
+shared_slice_read_short_line_3 : tie.Need-shared-slice-read-short-line-3
+shared_slice_read_short_line_3 c = search rules
 
-shared-slice-read-short-line-4 : tie.Need-shared-slice-read-short-line-4
-shared-slice-read-short-line-4 c = search rules
+shared_slice_read_short_line_4 : tie.Need-shared-slice-read-short-line-4
+shared_slice_read_short_line_4 c = search rules
 
-shared-slice-read-short-line-5 : tie.Need-shared-slice-read-short-line-5
-shared-slice-read-short-line-5 c = search rules
+shared_slice_read_short_line_5 : tie.Need-shared-slice-read-short-line-5
+shared_slice_read_short_line_5 c = search rules
 
-shared-slice-read-short-line-6 : tie.Need-shared-slice-read-short-line-6
-shared-slice-read-short-line-6 c = search rules
+shared_slice_read_short_line_6 : tie.Need-shared-slice-read-short-line-6
+shared_slice_read_short_line_6 c = search rules
 
-short-line-requires : tie.Need-short-line-requires
-short-line-requires c κs = search rules
+short_line_requires : tie.Need-short-line-requires
+short_line_requires c κs = search rules
 
 returns : tie.Need-returns
 returns c =
-    let at-short = c.before in
-    let at_read = at-short.before.before.before.before.before.before in
+    let at_short = c.before in
+    let at_read = at_short.before.before.before.before.before.before in
     let start = at_read.before.before.before in
     let s = start.args.s.now in
-    short-unsure start.args.t.now start.requires.0 s start.requires.1 at-short.short-line.result
-    (at-short.short-line.ensures ∙ ap short_of (six-of s start.requires.1)) (omega (arith, c.if1.true))
+    short_unsure start.args.t.now start.requires.0 s start.requires.1 at_short.short_line_lem.result
+    (at_short.short_line_lem.ensures ∙ ap short_of (six_of s start.requires.1)) (omega (arith, c.if1.true))
 
-cast-deliver-alone : tie.Need-overflow-cast-deliver-alone
-cast-deliver-alone c = search rules
+cast_deliver_alone : tie.Need-overflow-cast-deliver-alone
+cast_deliver_alone c = search rules
 
-deliver-alone-requires : tie.Need-deliver-alone-requires
-deliver-alone-requires c κs = search rules
+deliver_alone_requires : tie.Need-deliver-alone-requires
+deliver_alone_requires c κs = search rules
 
-count-requires : tie.Need-count-requires
-count-requires c κs = search rules
+count_requires : tie.Need-count-requires
+count_requires c κs = search rules
 
 same_length : tie.Need-same-length
 same_length c = search rules
 
-returns-2 : tie.Need-returns-2
-returns-2 c =
-    let at-deliver = c.before.before.before in
-    let at-if1 = at-deliver.before.before in
-    let at-short = at-if1.before in
-    let at_read = at-short.before.before.before.before.before.before in
+returns_2 : tie.Need-returns-2
+returns_2 c =
+    let at_deliver = c.before.before.before in
+    let at_if1 = at_deliver.before.before in
+    let at_short = at_if1.before in
+    let at_read = at_short.before.before.before.before.before.before in
     let start = at_read.before.before.before in
     let s = start.args.s.now in
-    delivery-turned start.args.t.now start.requires.0 s start.requires.1 at-short.short-line.result
-    (at-short.short-line.ensures ∙ ap short_of (six-of s start.requires.1)) at-if1.if1.false start.requires.2
-    at-deliver.deliver-alone.ensures c.count.ensures
+    delivery_turned start.args.t.now start.requires.0 s start.requires.1 at_short.short_line_lem.result
+    (at_short.short_line_lem.ensures ∙ ap short_of (six_of s start.requires.1)) at_if1.if1.false start.requires.2
+    at_deliver.deliver_alone_lem.ensures c.count.ensures
 
-pub deliver-line-spec : {M : Type 1} → statement M
-deliver-line-spec =
+pub deliver_line_spec : {M : Type 1} → statement M
+deliver_line_spec =
     tie.close
     (tie.spec
-    shared-slice-read-short-line
-    shared-slice-read-short-line-2
-    shared-slice-read-short-line-3
-    shared-slice-read-short-line-4
-    shared-slice-read-short-line-5
-    shared-slice-read-short-line-6
-    short-line-requires
+    shared_slice_read_short_line
+    shared_slice_read_short_line_2
+    shared_slice_read_short_line_3
+    shared_slice_read_short_line_4
+    shared_slice_read_short_line_5
+    shared_slice_read_short_line_6
+    short_line_requires
     returns
-    cast-deliver-alone
-    deliver-alone-requires
-    count-requires
+    cast_deliver_alone
+    deliver_alone_requires
+    count_requires
     same_length
-    returns-2)
+    returns_2)

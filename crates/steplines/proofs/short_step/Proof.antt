@@ -1,51 +1,51 @@
 -- `short_step` meets its contract, by the second character.
-use Rattle.steplines.proofs.StepLineLaws.{other-unsure}
+use Rattle.steplines.proofs.StepLineLaws.{other_unsure}
 use borrow.Author.Rules.{rules}
 use Rattle.steplines.proofs.short_step.Statement.{statement}
 use Rattle.steplines.proofs.short_step.Tie as tie
 
-shared-slice-read-match : tie.Need-shared-slice-read-match
-shared-slice-read-match c = search rules
+shared_slice_read_match : tie.Need-shared-slice-read-match
+shared_slice_read_match c = search rules
 
-purge-line-requires : tie.Need-purge-line-requires
-purge-line-requires c κs =
-    let at-match = c.before in
-    let start = at-match.before.before.before.before in
-    (start.requires.0, start.requires.1, at-match.match.keys1)
+purge_line_requires : tie.Need-purge-line-requires
+purge_line_requires c κs =
+    let at_match = c.before in
+    let start = at_match.before.before.before.before in
+    (start.requires.0, start.requires.1, at_match.match.keys1)
 
-deliver-line-requires : tie.Need-deliver-line-requires
-deliver-line-requires c κs =
-    let at-match = c.before in
-    let start = at-match.before.before.before.before in
-    (start.requires.0, start.requires.1, at-match.match.keys2)
+deliver_line_requires : tie.Need-deliver-line-requires
+deliver_line_requires c κs =
+    let at_match = c.before in
+    let start = at_match.before.before.before.before in
+    (start.requires.0, start.requires.1, at_match.match.keys2)
 
 same_length : tie.Need-same-length
 same_length c = search rules
 
 returns : tie.Need-returns
-returns c = c.before.before.purge-line.ensures
+returns c = c.before.before.purge_line.ensures
 
-same-length-2 : tie.Need-same-length-2
-same-length-2 c = search rules
+same_length_2 : tie.Need-same-length-2
+same_length_2 c = search rules
 
-returns-2 : tie.Need-returns-2
-returns-2 c = c.before.before.deliver-line.ensures
+returns_2 : tie.Need-returns-2
+returns_2 c = c.before.before.deliver_line.ensures
 
-returns-3 : tie.Need-returns-3
-returns-3 c =
+returns_3 : tie.Need-returns-3
+returns_3 c =
     let start = c.before.before.before.before in
     let other = c.match.rest in
-    other-unsure start.args.t.now start.requires.0 start.args.s.now start.requires.1 other.0.1 other.1
+    other_unsure start.args.t.now start.requires.0 start.args.s.now start.requires.1 other.0.1 other.1
 
-pub short-step-spec : {M : Type 1} → statement M
-short-step-spec =
+pub short_step_spec : {M : Type 1} → statement M
+short_step_spec =
     tie.close
     (tie.spec
-    shared-slice-read-match
-    purge-line-requires
-    deliver-line-requires
+    shared_slice_read_match
+    purge_line_requires
+    deliver_line_requires
     same_length
     returns
-    same-length-2
-    returns-2
-    returns-3)
+    same_length_2
+    returns_2
+    returns_3)

@@ -1,106 +1,106 @@
 -- `write_line` meets its contract: the sum is not zero, or the write's step.
 use native.Mathlib.Omega.{arith}
-use Rattle.steplines.proofs.StepLineLaws.{write-joins, write-unsure, write-turned}
+use Rattle.steplines.proofs.StepLineLaws.{write_joins, write_unsure, write_turned}
 use borrow.Author.Rules.{rules}
 use Rattle.steplines.proofs.write_line.Statement.{statement}
 use Rattle.steplines.proofs.write_line.Tie as tie
 
-slice-aggregate-values : tie.Need-slice-aggregate-values
-slice-aggregate-values c = search rules
+slice_aggregate_values : tie.Need-slice-aggregate-values
+slice_aggregate_values c = search rules
 
-values-requires : tie.Need-values-requires
-values-requires c κs = search rules
+values_requires : tie.Need-values-requires
+values_requires c κs = search rules
 
 returns : tie.Need-returns
 returns c =
-    let at-values = c.before.before in
-    let start = at-values.before.before.before.before in
-    write-unsure start.args.t.now start.requires.0 start.args.s.now at-values.values.new.1.0 at-values.values.result start.requires.1
-    at-values.values.ensures.0 at-values.values.ensures.1 c.if1.true
+    let at_values = c.before.before in
+    let start = at_values.before.before.before.before in
+    write_unsure start.args.t.now start.requires.0 start.args.s.now at_values.values.new.1.0 at_values.values.result start.requires.1
+    at_values.values.ensures.0 at_values.values.ensures.1 c.if1.true
 
-slice-aggregate-byte-of : tie.Need-slice-aggregate-byte-of
-slice-aggregate-byte-of c = search rules
+slice_aggregate_byte_of : tie.Need-slice-aggregate-byte-of
+slice_aggregate_byte_of c = search rules
 
-byte-of-requires : tie.Need-byte-of-requires
-byte-of-requires c κs =
-    let at-if1 = c.before.before in
-    let at-values = at-if1.before.before in
-    let start = at-values.before.before.before.before in
-    write-joins start.args.t.now start.requires.0 start.args.s.now at-values.values.new.1.0 at-values.values.result start.requires.1
-    at-values.values.ensures.0 at-values.values.ensures.1 at-if1.if1.false _ _ (omega arith)
+byte_of_requires : tie.Need-byte-of-requires
+byte_of_requires c κs =
+    let at_if1 = c.before.before in
+    let at_values = at_if1.before.before in
+    let start = at_values.before.before.before.before in
+    write_joins start.args.t.now start.requires.0 start.args.s.now at_values.values.new.1.0 at_values.values.result start.requires.1
+    at_values.values.ensures.0 at_values.values.ensures.1 at_if1.if1.false _ _ (omega arith)
 
-slice-aggregate-word-of : tie.Need-slice-aggregate-word-of
-slice-aggregate-word-of c = search rules
+slice_aggregate_word_of : tie.Need-slice-aggregate-word-of
+slice_aggregate_word_of c = search rules
 
-word-of-requires : tie.Need-word-of-requires
-word-of-requires c κs =
-    let at-if1 = c.before.before.before.before in
-    let at-values = at-if1.before.before in
-    let start = at-values.before.before.before.before in
-    write-joins start.args.t.now start.requires.0 start.args.s.now at-values.values.new.1.0 at-values.values.result start.requires.1
-    at-values.values.ensures.0 at-values.values.ensures.1 at-if1.if1.false _ _ (omega arith)
+word_of_requires : tie.Need-word-of-requires
+word_of_requires c κs =
+    let at_if1 = c.before.before.before.before in
+    let at_values = at_if1.before.before in
+    let start = at_values.before.before.before.before in
+    write_joins start.args.t.now start.requires.0 start.args.s.now at_values.values.new.1.0 at_values.values.result start.requires.1
+    at_values.values.ensures.0 at_values.values.ensures.1 at_if1.if1.false _ _ (omega arith)
 
-slice-aggregate-word-of-2 : tie.Need-slice-aggregate-word-of-2
-slice-aggregate-word-of-2 c = search rules
+slice_aggregate_word_of_2 : tie.Need-slice-aggregate-word-of-2
+slice_aggregate_word_of_2 c = search rules
 
-word-of-requires-2 : tie.Need-word-of-requires-2
-word-of-requires-2 c κs =
-    let at-if1 = c.before.before.before.before.before.before in
-    let at-values = at-if1.before.before in
-    let start = at-values.before.before.before.before in
-    write-joins start.args.t.now start.requires.0 start.args.s.now at-values.values.new.1.0 at-values.values.result start.requires.1
-    at-values.values.ensures.0 at-values.values.ensures.1 at-if1.if1.false _ _ (omega arith)
+word_of_requires_2 : tie.Need-word-of-requires-2
+word_of_requires_2 c κs =
+    let at_if1 = c.before.before.before.before.before.before in
+    let at_values = at_if1.before.before in
+    let start = at_values.before.before.before.before in
+    write_joins start.args.t.now start.requires.0 start.args.s.now at_values.values.new.1.0 at_values.values.result start.requires.1
+    at_values.values.ensures.0 at_values.values.ensures.1 at_if1.if1.false _ _ (omega arith)
 
-slice-aggregate-byte-of-2 : tie.Need-slice-aggregate-byte-of-2
-slice-aggregate-byte-of-2 c = search rules
+slice_aggregate_byte_of_2 : tie.Need-slice-aggregate-byte-of-2
+slice_aggregate_byte_of_2 c = search rules
 
-byte-of-requires-2 : tie.Need-byte-of-requires-2
-byte-of-requires-2 c κs =
-    let at-if1 = c.before.before.before.before.before.before.before.before in
-    let at-values = at-if1.before.before in
-    let start = at-values.before.before.before.before in
-    write-joins start.args.t.now start.requires.0 start.args.s.now at-values.values.new.1.0 at-values.values.result start.requires.1
-    at-values.values.ensures.0 at-values.values.ensures.1 at-if1.if1.false _ _ (omega arith)
+byte_of_requires_2 : tie.Need-byte-of-requires-2
+byte_of_requires_2 c κs =
+    let at_if1 = c.before.before.before.before.before.before.before.before in
+    let at_values = at_if1.before.before in
+    let start = at_values.before.before.before.before in
+    write_joins start.args.t.now start.requires.0 start.args.s.now at_values.values.new.1.0 at_values.values.result start.requires.1
+    at_values.values.ensures.0 at_values.values.ensures.1 at_if1.if1.false _ _ (omega arith)
 
-write-requires : tie.Need-write-requires
-write-requires c κs = search rules
+write_requires : tie.Need-write-requires
+write_requires c κs = search rules
 
-count-requires : tie.Need-count-requires
-count-requires c κs = search rules
+count_requires : tie.Need-count-requires
+count_requires c κs = search rules
 
 same_length : tie.Need-same-length
 same_length c = search rules
 
-returns-2 : tie.Need-returns-2
-returns-2 c =
-    let at-write = c.before.before.before in
-    let at-byte-of2 = at-write.before in
-    let at-word-of2 = at-byte-of2.before.before in
-    let at-word-of = at-word-of2.before.before in
-    let at-byte-of = at-word-of.before.before in
-    let at-if1 = at-byte-of.before.before.before in
-    let at-values = at-if1.before.before in
-    let start = at-values.before.before.before.before in
-    write-turned start.args.t.now start.requires.0 start.args.s.now at-values.values.new.1.0 at-values.values.result start.requires.1
-    at-values.values.ensures.0 at-values.values.ensures.1 at-if1.if1.false at-byte-of.byte_of.ensures at-word-of.word_of.ensures
-    at-word-of2.word-of2.ensures at-byte-of2.byte-of2.ensures at-write.write.ensures c.count.ensures
+returns_2 : tie.Need-returns-2
+returns_2 c =
+    let at_write = c.before.before.before in
+    let at_byte_of2 = at_write.before in
+    let at_word_of2 = at_byte_of2.before.before in
+    let at_word_of = at_word_of2.before.before in
+    let at_byte_of = at_word_of.before.before in
+    let at_if1 = at_byte_of.before.before.before in
+    let at_values = at_if1.before.before in
+    let start = at_values.before.before.before.before in
+    write_turned start.args.t.now start.requires.0 start.args.s.now at_values.values.new.1.0 at_values.values.result start.requires.1
+    at_values.values.ensures.0 at_values.values.ensures.1 at_if1.if1.false at_byte_of.byte_of.ensures at_word_of.word_of.ensures
+    at_word_of2.word-of2.ensures at_byte_of2.byte-of2.ensures at_write.write.ensures c.count.ensures
 
-pub write-line-spec : {M : Type 1} → statement M
-write-line-spec =
+pub write_line_spec : {M : Type 1} → statement M
+write_line_spec =
     tie.close
     (tie.spec
-    slice-aggregate-values
-    values-requires
+    slice_aggregate_values
+    values_requires
     returns
-    slice-aggregate-byte-of
-    byte-of-requires
-    slice-aggregate-word-of
-    word-of-requires
-    slice-aggregate-word-of-2
-    word-of-requires-2
-    slice-aggregate-byte-of-2
-    byte-of-requires-2
-    write-requires
-    count-requires
+    slice_aggregate_byte_of
+    byte_of_requires
+    slice_aggregate_word_of
+    word_of_requires
+    slice_aggregate_word_of_2
+    word_of_requires_2
+    slice_aggregate_byte_of_2
+    byte_of_requires_2
+    write_requires
+    count_requires
     same_length
-    returns-2)
+    returns_2)

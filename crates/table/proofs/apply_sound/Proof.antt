@@ -3,83 +3,83 @@ use borrow.Author.Rules.{rules}
 use Rattle.table.proofs.apply_sound.Statement.{statement}
 use Rattle.table.proofs.apply_sound.Tie as tie
 
-enum-known-action : tie.Need-enum-known-action
-enum-known-action c = search rules
+enum_known_action : tie.Need-enum-known-action
+enum_known_action c = search rules
 
-write-requires : tie.Need-write-requires
-write-requires c κs = search rules
+write_requires : tie.Need-write-requires
+write_requires c κs = search rules
 
-enum-known-action-2 : tie.Need-enum-known-action-2
-enum-known-action-2 c = search rules
+enum_known_action_2 : tie.Need-enum-known-action-2
+enum_known_action_2 c = search rules
 
-session-requires : tie.Need-session-requires
-session-requires c κs = search rules
+session_requires : tie.Need-session-requires
+session_requires c κs = search rules
 
-enum-known-action-3 : tie.Need-enum-known-action-3
-enum-known-action-3 c = search rules
+enum_known_action_3 : tie.Need-enum-known-action-3
+enum_known_action_3 c = search rules
 
-purge-requires : tie.Need-purge-requires
-purge-requires c κs = search rules
+purge_requires : tie.Need-purge-requires
+purge_requires c κs = search rules
 
-enum-known-action-4 : tie.Need-enum-known-action-4
-enum-known-action-4 c = search rules
+enum_known_action_4 : tie.Need-enum-known-action-4
+enum_known_action_4 c = search rules
 
-deliver-alone-requires : tie.Need-deliver-alone-requires
-deliver-alone-requires c κs = search rules
+deliver_alone_requires : tie.Need-deliver-alone-requires
+deliver_alone_requires c κs = search rules
 
 same_length : tie.Need-same-length
 same_length c = search rules
 
 returns : tie.Need-returns
 returns c =
-    let at-write = c.before.before in
-    let at-action = at-write.before.before.before in
-    rw at-action.action.given.1 at-write.write.ensures
+    let at_write = c.before.before in
+    let at_action = at_write.before.before.before in
+    rw at_action.action.given.1 at_write.write.ensures
 
-same-length-2 : tie.Need-same-length-2
-same-length-2 c = search rules
+same_length_2 : tie.Need-same-length-2
+same_length_2 c = search rules
 
-returns-2 : tie.Need-returns-2
-returns-2 c =
-    let at-session = c.before.before in
-    let at-action2 = at-session.before.before.before in
-    rw at-action2.action2.given.1 at-session.session.ensures
+returns_2 : tie.Need-returns-2
+returns_2 c =
+    let at_session = c.before.before in
+    let at_action2 = at_session.before.before.before in
+    rw at_action2.action2.given.1 at_session.session.ensures
 
-same-length-3 : tie.Need-same-length-3
-same-length-3 c = search rules
+same_length_3 : tie.Need-same-length-3
+same_length_3 c = search rules
 
-returns-3 : tie.Need-returns-3
-returns-3 c =
-    let at-purge = c.before.before in
-    let at-action3 = at-purge.before.before.before in
-    rw at-action3.action3.given.1 at-purge.purge.ensures
+returns_3 : tie.Need-returns-3
+returns_3 c =
+    let at_purge = c.before.before in
+    let at_action3 = at_purge.before.before.before in
+    rw at_action3.action3.given.1 at_purge.purge.ensures
 
-same-length-4 : tie.Need-same-length-4
-same-length-4 c = search rules
+same_length_4 : tie.Need-same-length-4
+same_length_4 c = search rules
 
-returns-4 : tie.Need-returns-4
-returns-4 c =
-    let at-deliver-alone = c.before.before in
-    let at-action4 = at-deliver-alone.before.before.before in
-    rw at-action4.action4.given.1 at-deliver-alone.deliver-alone.ensures
+returns_4 : tie.Need-returns-4
+returns_4 c =
+    let at_deliver_alone = c.before.before in
+    let at_action4 = at_deliver_alone.before.before.before in
+    rw at_action4.action4.given.1 at_deliver_alone.deliver_alone_lem.ensures
 
-pub apply-sound-spec : {M : Type 1} → statement M
-apply-sound-spec =
+pub apply_sound_spec : {M : Type 1} → statement M
+apply_sound_spec =
     tie.close
     (tie.spec
-    enum-known-action
-    write-requires
-    enum-known-action-2
-    session-requires
-    enum-known-action-3
-    purge-requires
-    enum-known-action-4
-    deliver-alone-requires
+    enum_known_action
+    write_requires
+    enum_known_action_2
+    session_requires
+    enum_known_action_3
+    purge_requires
+    enum_known_action_4
+    deliver_alone_requires
     same_length
     returns
-    same-length-2
-    returns-2
-    same-length-3
-    returns-3
-    same-length-4
-    returns-4)
+    same_length_2
+    returns_2
+    same_length_3
+    returns_3
+    same_length_4
+    returns_4)

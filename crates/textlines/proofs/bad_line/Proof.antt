@@ -1,52 +1,52 @@
 -- `bad_line` is four texts, one after the other.
 use native.Mathlib.Omega.{arith}
 use Rattle.printing.proofs.Writing.{wrote_as, wrote_then}
-use Rattle.textlines.proofs.LineLaws.{bad-is}
+use Rattle.textlines.proofs.LineLaws.{bad_is}
 use borrow.Author.Rules.{rules}
 use Rattle.textlines.proofs.bad_line.Statement.{statement}
 use Rattle.textlines.proofs.bad_line.Tie as tie
 
-slice-aggregate-said-one : tie.Need-slice-aggregate-said-one
-slice-aggregate-said-one c = search rules
+slice_aggregate_said_one : tie.Need-slice-aggregate-said-one
+slice_aggregate_said_one c = search rules
 
-said-one-requires : tie.Need-said-one-requires
-said-one-requires c κs = search rules
+said_one_requires : tie.Need-said-one-requires
+said_one_requires c κs = search rules
 
-entry-requires : tie.Need-entry-requires
-entry-requires c κs = search rules
+entry_requires : tie.Need-entry-requires
+entry_requires c κs = search rules
 
-entry-requires-2 : tie.Need-entry-requires-2
-entry-requires-2 c κs = search rules
+entry_requires_2 : tie.Need-entry-requires-2
+entry_requires_2 c κs = search rules
 
-put-requires : tie.Need-put-requires
-put-requires c κs = search rules
+put_requires : tie.Need-put-requires
+put_requires c κs = search rules
 
 same_length : tie.Need-same-length
 same_length c = search rules
 
 returns : tie.Need-returns
 returns c =
-    let at-put = c.before.before in
-    let at-entry2 = at-put.before.before.before.before in
-    let at_entry_lem = at-entry2.before.before.before.before in
-    let at-said-one = at_entry_lem.before.before.before.before in
-    let s = at-said-one.before.before.before.before in
-    let k₁ = at-said-one.said-one.auto.0 in
-    let w₁ = at-said-one.said-one.ensures.within in
+    let at_put = c.before.before in
+    let at_entry2 = at_put.before.before.before.before in
+    let at_entry_lem = at_entry2.before.before.before.before in
+    let at_said_one = at_entry_lem.before.before.before.before in
+    let s = at_said_one.before.before.before.before in
+    let k₁ = at_said_one.said_one_lem.auto.0 in
+    let w₁ = at_said_one.said_one_lem.ensures.within in
     let k₂ = at_entry_lem.entry.auto.0 in
     let w₂ = at_entry_lem.entry.ensures.within in
-    let last = wrote_then (omega (arith, s.requires)) at-entry2.entry2.ensures at-put.put.ensures in
+    let last = wrote_then (omega (arith, s.requires)) at_entry2.entry2.ensures at_put.put.ensures in
     let rest = wrote_then (omega (arith, s.requires)) at_entry_lem.entry.ensures last in
-    wrote_as (bad-is s.args.line s.args.number s.args.place) (omega arith) (wrote_then (omega arith) at-said-one.said-one.ensures rest)
+    wrote_as (bad_is s.args.line s.args.number s.args.place) (omega arith) (wrote_then (omega arith) at_said_one.said_one_lem.ensures rest)
 
-pub bad-line-spec : {M : Type 1} → statement M
-bad-line-spec =
+pub bad_line_spec : {M : Type 1} → statement M
+bad_line_spec =
     tie.close
     (tie.spec
-    slice-aggregate-said-one
-    said-one-requires
-    entry-requires
-    entry-requires-2
-    put-requires
+    slice_aggregate_said_one
+    said_one_requires
+    entry_requires
+    entry_requires_2
+    put_requires
     same_length
     returns)

@@ -6,8 +6,8 @@ use Rattle.verdicts.proofs.one_if.Tie as tie
 returns : tie.Need-returns
 returns c = search rules
 
-returns-2 : tie.Need-returns-2
-returns-2 c = search rules
+returns_2 : tie.Need-returns-2
+returns_2 c = search rules
 
-pub one-if-spec : {M : Type 1} → statement M
-one-if-spec = tie.close (tie.spec returns returns-2)
+pub one_if_spec : {M : Type 1} → statement M
+one_if_spec = tie.close (tie.spec returns returns_2)

@@ -6,43 +6,43 @@ use lib.ListN.{length}
 use Rattle.edges.proofs.cases.all.Statement.{statement}
 use Rattle.edges.proofs.cases.all.Tie as tie
 
-abbrev invariant-loop : tie.invariant-loop
-invariant-loop t₀ s at₀ t at = length t ≡ length t₀
+abbrev invariant_loop : tie.invariant_loop
+invariant_loop t₀ s at₀ t at = length t ≡ length t₀
 
-abbrev decreases-loop : tie.decreases-loop
-decreases-loop t₀ s at₀ t at = (length s + 1) - at
+abbrev decreases_loop : tie.decreases_loop
+decreases_loop t₀ s at₀ t at = (length s + 1) - at
 
-loop-holds : tie.Need-loop-init invariant-loop decreases-loop
-loop-holds c = search rules
+loop_holds : tie.Need-loop-init invariant_loop decreases_loop
+loop_holds c = search rules
 
-case-requires : tie.Need-case-requires invariant-loop decreases-loop
-case-requires c κs = search rules
+case_requires : tie.Need-case-requires invariant_loop decreases_loop
+case_requires c κs = search rules
 
-add_at : tie.Need-overflow-add-at invariant-loop decreases-loop
+add_at : tie.Need-overflow-add-at invariant_loop decreases_loop
 add_at c = search rules
 
-loop-less : tie.Need-loop-smaller invariant-loop decreases-loop
-loop-less c = search rules
+loop_less : tie.Need-loop-smaller invariant_loop decreases_loop
+loop_less c = search rules
 
-loop-again : tie.Need-loop-preserved invariant-loop decreases-loop
-loop-again c = search rules
+loop_again : tie.Need-loop-preserved invariant_loop decreases_loop
+loop_again c = search rules
 
-same_length : tie.Need-same-length invariant-loop decreases-loop
+same_length : tie.Need-same-length invariant_loop decreases_loop
 same_length c = search rules
 
-returns : tie.Need-returns invariant-loop decreases-loop
+returns : tie.Need-returns invariant_loop decreases_loop
 returns c = search rules
 
-pub all-spec : {M : Type 1} → statement M
-all-spec =
+pub all_spec : {M : Type 1} → statement M
+all_spec =
     tie.close
     (tie.spec
-    invariant-loop
-    decreases-loop
-    loop-holds
-    case-requires
+    invariant_loop
+    decreases_loop
+    loop_holds
+    case_requires
     add_at
-    loop-less
-    loop-again
+    loop_less
+    loop_again
     same_length
     returns)

@@ -4,55 +4,55 @@ use borrow.Author.Rules.{rules}
 use Rattle.edges.proofs.walk.journal.Statement.{statement}
 use Rattle.edges.proofs.walk.journal.Tie as tie
 
-abbrev invariant-loop : tie.invariant-loop
-invariant-loop name s at₀ line₀ at line = line ≤ 11
+abbrev invariant_loop : tie.invariant_loop
+invariant_loop name s at₀ line₀ at line = line ≤ 11
 
-abbrev decreases-loop : tie.decreases-loop
-decreases-loop name s at₀ line₀ at line = 11 - line
+abbrev decreases_loop : tie.decreases_loop
+decreases_loop name s at₀ line₀ at line = 11 - line
 
-write-all-requires : tie.Need-write-all-requires invariant-loop decreases-loop
-write-all-requires c κs = search rules
+write_all_requires : tie.Need-write-all-requires invariant_loop decreases_loop
+write_all_requires c κs = search rules
 
-slice-aggregate-write-all : tie.Need-slice-aggregate-write-all invariant-loop decreases-loop
-slice-aggregate-write-all c = search rules
+slice_aggregate_write_all : tie.Need-slice-aggregate-write-all invariant_loop decreases_loop
+slice_aggregate_write_all c = search rules
 
-write-all-requires-2 : tie.Need-write-all-requires-2 invariant-loop decreases-loop
-write-all-requires-2 c κs = search rules
+write_all_requires_2 : tie.Need-write-all-requires-2 invariant_loop decreases_loop
+write_all_requires_2 c κs = search rules
 
-loop-holds : tie.Need-loop-init invariant-loop decreases-loop
-loop-holds c = search rules
+loop_holds : tie.Need-loop-init invariant_loop decreases_loop
+loop_holds c = search rules
 
-one-requires : tie.Need-one-requires invariant-loop decreases-loop
-one-requires c κs = search rules
+one_requires : tie.Need-one-requires invariant_loop decreases_loop
+one_requires c κs = search rules
 
-returns : tie.Need-returns invariant-loop decreases-loop
+returns : tie.Need-returns invariant_loop decreases_loop
 returns c = search rules
 
-add-line : tie.Need-overflow-add-line invariant-loop decreases-loop
-add-line c = search rules
+add_line : tie.Need-overflow-add-line invariant_loop decreases_loop
+add_line c = search rules
 
-loop-less : tie.Need-loop-smaller invariant-loop decreases-loop
-loop-less c = search rules
+loop_less : tie.Need-loop-smaller invariant_loop decreases_loop
+loop_less c = search rules
 
-loop-again : tie.Need-loop-preserved invariant-loop decreases-loop
-loop-again c = search rules
+loop_again : tie.Need-loop-preserved invariant_loop decreases_loop
+loop_again c = search rules
 
-returns-2 : tie.Need-returns-2 invariant-loop decreases-loop
-returns-2 c = search rules
+returns_2 : tie.Need-returns-2 invariant_loop decreases_loop
+returns_2 c = search rules
 
-pub journal-spec : {M : Type 1} → statement M
-journal-spec =
+pub journal_spec : {M : Type 1} → statement M
+journal_spec =
     tie.close
     (tie.spec
-    invariant-loop
-    decreases-loop
-    write-all-requires
-    slice-aggregate-write-all
-    write-all-requires-2
-    loop-holds
-    one-requires
+    invariant_loop
+    decreases_loop
+    write_all_requires
+    slice_aggregate_write_all
+    write_all_requires_2
+    loop_holds
+    one_requires
     returns
-    add-line
-    loop-less
-    loop-again
-    returns-2)
+    add_line
+    loop_less
+    loop_again
+    returns_2)

@@ -1,18 +1,18 @@
 -- `pollencart_count`: what is stored and returned are the values of the answer.
 use borrow.Author.Rules.{rules}
 use mathlib.Core.Path.{ap, ◌∙◌}
-use Rattle.meaning.specs.Verdicts.{countValues}
+use Rattle.meaning.specs.Verdicts.{count_values}
 use Rattle.pollencart.proofs.counts.pollencart_count.Statement.{statement}
 use Rattle.pollencart.proofs.counts.pollencart_count.Tie as tie
 
-count-requires : tie.Need-count-requires
-count-requires c κs = search rules
+count_requires : tie.Need-count-requires
+count_requires c κs = search rules
 
-store-requires : tie.Need-store-requires
-store-requires c κs = search rules
+store_requires : tie.Need-store-requires
+store_requires c κs = search rules
 
 returns : tie.Need-returns
-returns c = c.store.ensures ∙ ap countValues c.before.before.before.before.count.ensures
+returns c = c.store.ensures ∙ ap count_values c.before.before.before.before.count.ensures
 
-pub pollencart-count-spec : {M : Type 1} → statement M
-pollencart-count-spec = tie.close (tie.spec count-requires store-requires returns)
+pub pollencart_count_spec : {M : Type 1} → statement M
+pollencart_count_spec = tie.close (tie.spec count_requires store_requires returns)

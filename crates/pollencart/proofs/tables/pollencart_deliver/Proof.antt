@@ -5,26 +5,26 @@ use borrow.Author.Rules.{rules}
 use Rattle.pollencart.proofs.tables.pollencart_deliver.Statement.{statement}
 use Rattle.pollencart.proofs.tables.pollencart_deliver.Tie as tie
 
-deliver-requires : tie.Need-deliver-requires
-deliver-requires c κs = search rules
+deliver_requires : tie.Need-deliver-requires
+deliver_requires c κs = search rules
 
-first-of-requires : tie.Need-first-of-requires
-first-of-requires c κs = search rules
+first_of_requires : tie.Need-first-of-requires
+first_of_requires c κs = search rules
 
-number-of-requires : tie.Need-number-of-requires
-number-of-requires c κs = search rules
+number_of_requires : tie.Need-number-of-requires
+number_of_requires c κs = search rules
 
 same_length : tie.Need-same-length
 same_length c = search rules
 
-same-length-2 : tie.Need-same-length-2
-same-length-2 c = search rules
+same_length_2 : tie.Need-same-length-2
+same_length_2 c = search rules
 
 returns : tie.Need-returns
 returns c =
-    let at-deliver = c.before.before.before.before.before.before in
-    let done = at-deliver.deliver.ensures in
+    let at_deliver = c.before.before.before.before.before.before in
+    let done = at_deliver.deliver.ensures in
     (told 2 _ _ done.0 _ _ _ c.number_of_lem.ensures c.before.first_of.ensures refl, done.1, done.2)
 
-pub pollencart-deliver-spec : {M : Type 1} → statement M
-pollencart-deliver-spec = tie.close (tie.spec deliver-requires first-of-requires number-of-requires same_length same-length-2 returns)
+pub pollencart_deliver_spec : {M : Type 1} → statement M
+pollencart_deliver_spec = tie.close (tie.spec deliver_requires first_of_requires number_of_requires same_length same_length_2 returns)

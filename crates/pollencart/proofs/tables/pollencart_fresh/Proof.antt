@@ -3,8 +3,8 @@ use borrow.Author.Rules.{rules}
 use Rattle.pollencart.proofs.tables.pollencart_fresh.Statement.{statement}
 use Rattle.pollencart.proofs.tables.pollencart_fresh.Tie as tie
 
-fresh-requires : tie.Need-fresh-requires
-fresh-requires c κs = search rules
+fresh_requires : tie.Need-fresh-requires
+fresh_requires c κs = search rules
 
 same_length : tie.Need-same-length
 same_length c = search rules
@@ -12,6 +12,6 @@ same_length c = search rules
 returns : tie.Need-returns
 returns c = search rules
 
-pub pollencart-fresh-spec : {M : Type 1} → statement M
-pollencart-fresh-spec =
-    tie.close (tie.spec fresh-requires same_length returns)
+pub pollencart_fresh_spec : {M : Type 1} → statement M
+pollencart_fresh_spec =
+    tie.close (tie.spec fresh_requires same_length returns)
