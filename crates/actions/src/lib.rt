@@ -1,4 +1,6 @@
 // The action that an accepted line holds. Inner functions: what they require, `reading` shows.
+#![tactic(auto)]
+
 ghost use Rattle.std.specs.Prelude.{◌≡◌, true, ◌<◌, length};
 ghost use Rattle.meaning.specs.Frames.{bytes_of, all_digits, line_fields, action_of};
 ghost use Rattle.heads.specs.Heads.{Whole, write_at, session_at, purge_at, deliver_at};

@@ -1,4 +1,6 @@
 // Answers taken apart for C: a reply's numbers, a count's, a writer's, a checked line's.
+#![tactic(auto)]
+
 ghost use Rattle.std.specs.Prelude.{◌≡◌, [], ◌∷◌, ◌≤◌, get_or};
 ghost use Rattle.meaning.specs.Steps.{reply_values};
 ghost use Rattle.meaning.specs.Verdicts.{count_values};

@@ -1,5 +1,7 @@
 // How many records of a log, four words a row, lent as a part that starts anywhere, are newer than a summary.
 // They know no offset: where a log stands is the caller's to say. Inner functions: what they require, the table's code shows.
+#![tactic(auto)]
+
 ghost use Rattle.std.specs.Prelude.{◌≡◌, true, [], ◌∷◌, ◌*◌, ◌≤◌, ◌<◌, length};
 ghost use Rattle.meaning.specs.Rows.{newer, records, all};
 ghost use Rattle.meaning.specs.Table.{record_sound};

@@ -1,5 +1,7 @@
 // Leaves over the columns of a node, in a table that has them: raised by a partner's, and the smallest of them all. Document 02, T-06.
 // Inner functions: what they require, the table's entry points show.
+#![tactic(auto)]
+
 ghost use Rattle.std.specs.Prelude.{◌≡◌, [], ◌+◌, ◌≤◌, ◌<◌, length, get_or};
 ghost use Rattle.meaning.specs.Table.{nodes_most, column_at, part};
 ghost use Rattle.columns.specs.Merged.{brought, raised_by, raised_columns, merged_columns, Raises, Merges};

@@ -1,4 +1,6 @@
 // One field of a line, by its place among its kind's fields. Inner functions: what they require, `reading` shows.
+#![tactic(auto)]
+
 ghost use Rattle.std.specs.Prelude.{◌≡◌, true, ◌+◌, ◌<◌, length, get_or};
 ghost use Rattle.meaning.specs.Frames.{all_digits, fields_of, line_values, read_line};
 ghost use Rattle.heads.specs.Heads.{write_at, session_at};

@@ -1,5 +1,7 @@
 // Delivery: what is due at a node goes into a lent list, in the order that is the same everywhere, and its mark rises. Document 02, T-04 and T-06.
 // Inner functions: what they require, `deliver` shows; what `deliver` requires, the table's entry points show.
+#![tactic(auto)]
+
 ghost use Rattle.std.specs.Prelude.{◌≡◌, ◌*◌, ◌≤◌, ◌<◌, length, ltb};
 ghost use Rattle.meaning.specs.declared.Action.TheVariants.{Deliver};
 ghost use Rattle.meaning.specs.Rows.{due, in_order, least, words};

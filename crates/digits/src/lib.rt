@@ -1,5 +1,7 @@
 // A line's digits: their numbers, the first character that is none, and their sum. Nothing here knows a kind.
 // Inner functions: what they require, `quick`, `faults`, `six` and `turns` show.
+#![tactic(auto)]
+
 ghost use Rattle.std.specs.Prelude.{◌≡◌, ◌%◌, length};
 ghost use Rattle.meaning.specs.Frames.{digit_value, stray_at};
 ghost use Rattle.digits.specs.Digits.{letter_value, weigh, sum_of, values_of};

@@ -1,5 +1,7 @@
 // The edges of document 01 that are not starred, some of their neighbours, and deliveries, run over the library: the cases stand in the file stdin, a line
 // each, and what they must print stands in the file stdout. Journals are walked with the reader.
+#![tactic(auto)]
+
 use input::Input;
 use libc::STDIN_FILENO;
 

@@ -1,4 +1,6 @@
 // What C reads of a table: one scan for soundness a call, and 0 where there is none. The definitions are those of specs/Entries.antt.
+#![tactic(auto)]
+
 ghost use Rattle.std.specs.Prelude.{◌≡◌, ◌+◌, ◌≤◌, length, get_or};
 ghost use Rattle.meaning.specs.Table.{nodes_most, part, count, Sound};
 ghost use Rattle.entries.specs.Entries.{present, summary_entry, ack_entry, column_entry, held_number, record_word, mark_entry};

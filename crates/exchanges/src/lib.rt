@@ -1,5 +1,7 @@
 // The exchange of a session: both sides, each from what the other began with. Document 01, "The three actions".
 // Inner functions: what they require, the table's entry points show.
+#![tactic(auto)]
+
 ghost use Rattle.exchanges.specs.Met.{Exchanged, Meets, TradeDone, Trades};
 
 use looks::held_of;

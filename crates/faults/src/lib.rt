@@ -1,4 +1,6 @@
 // Why a line is refused, and where, each clause asked in the order of documents 01 and 02 (T-01). The other way than that of `quick`.
+#![tactic(auto)]
+
 ghost use Rattle.std.specs.Prelude.{◌≡◌, true, not, [], ◌∷◌, ◌%◌, ◌<◌, length};
 ghost use Rattle.meaning.specs.Refusals.{test_at};
 ghost use Rattle.meaning.specs.Frames.{all_digits, fault_of, line_fault};

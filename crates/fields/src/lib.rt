@@ -1,5 +1,7 @@
 // A frame's parts: a word's bytes, the check byte, a line's characters with the LF. Document 01, "Frames and journals".
 // Inner functions: what they require, the frames' code shows.
+#![tactic(auto)]
+
 ghost use Rattle.std.specs.Prelude.{◌≡◌, ◌+◌, ◌*◌, ◌<◌, ◌≤◌, [], ◌∷◌, ◌++◌, length, take};
 ghost use Rattle.meaning.specs.Table.{place};
 ghost use Rattle.meaning.specs.Frames.{spelled, high_first, sealed};

@@ -1,11 +1,13 @@
 // The line at a place of a journal: where it ends, and the part of the caller's bytes that it is. Document 01, "Frames and journals".
+#![tactic(auto)]
+
 ghost use Rattle.std.specs.Prelude.{◌≡◌};
 ghost use Rattle.meaning.specs.Journals.{line_at};
 ghost use Rattle.finder.specs.Found.{found_at};
 ghost use Rattle.finder.specs.Parts.{Part};
 
 // What stands at a place: a line, with the place of the LF that ends it; bytes that no LF ends; or nothing, at the end or beyond.
-#[derive(Drop)]
+#[derive(Clone, Copy)]
 pub enum Found {
     Line { end: usize },
     Unended,

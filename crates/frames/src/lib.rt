@@ -1,5 +1,7 @@
 // Each kind's frame written into lent bytes that have room for it, by its fields, as numbers. Document 01, "Frames and journals".
 // Inner functions: what they require, the writers show.
+#![tactic(auto)]
+
 ghost use Rattle.std.specs.Prelude.{◌≡◌, [], ◌∷◌, ◌≤◌, length};
 ghost use Rattle.meaning.specs.declared.Action.TheVariants.{Write, Session};
 ghost use Rattle.meaning.specs.Table.{place};

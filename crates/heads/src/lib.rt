@@ -1,5 +1,7 @@
 // A line of six characters, which can only be a start, a purge or a delivery: what it holds, sure in both directions. Beside it stand the laws of any
 // line that is accepted, by which `quick` tells the longer ones. Document 01, "Frames and journals"; document 02, T-04.
+#![tactic(auto)]
+
 ghost use Rattle.std.specs.Prelude.{◌≡◌, [], ◌∷◌, ◌≤◌, ◌<◌};
 ghost use Rattle.meaning.specs.Frames.{digit_value, digit};
 ghost use Rattle.digits.specs.Digits.{letter_value};

@@ -1,11 +1,13 @@
 // An input read into lent bytes up to its end, where a failed read is told from the end. The program's journal is read so: half of one must not pass
 // for a whole one.
+#![tactic(auto)]
+
 ghost use Rattle.std.specs.Prelude.{◌≡◌, ◌<◌, length, take};
 ghost use Rattle.input.specs.Reading.{read_to, Within};
 
 // How far an input has been read: so many bytes have come and more may follow, it ended after so many, it filled the lent bytes before it
 // ended, or a read failed, and errno says why.
-#[derive(Drop)]
+#[derive(Clone, Copy)]
 pub enum Input {
     More(usize),
     End(usize),

@@ -1,5 +1,7 @@
 // The journal reader on a slice and a place: what the line there says, in its turn. Its part and the place after it are `lineparts`'.
 // Document 01, "Frames and journals".
+#![tactic(auto)]
+
 ghost use Rattle.std.specs.Prelude.{◌≡◌};
 ghost use Rattle.meaning.specs.Frames.{read_line};
 ghost use Rattle.meaning.specs.Journals.{next_in, next_at, in_turn};

@@ -1,4 +1,6 @@
 // Where each part of a table stands: the offsets of specs/Table.antt as code. No other file of the product's code knows one.
+#![tactic(auto)]
+
 ghost use Rattle.std.specs.Prelude.{◌≡◌, ◌+◌, ◌<◌, ◌≤◌, length};
 ghost use Rattle.meaning.specs.Table.{
   form_of,

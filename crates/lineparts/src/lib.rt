@@ -1,4 +1,6 @@
 // The journal reader on a slice and a place: the part of the journal that the line there is, and the place after it. Document 01, "Frames and journals".
+#![tactic(auto)]
+
 ghost use Rattle.std.specs.Prelude.{◌≡◌};
 ghost use Rattle.finder.specs.Parts.{Part};
 ghost use Rattle.lineparts.specs.Reached.{part_at, position_at};

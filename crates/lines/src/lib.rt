@@ -1,5 +1,7 @@
 // What lines do to a table that is there already, up to the first refused one. Document 01, "Frames and journals".
 // The entry point, `apply_lines`, takes any words and any bytes at all.
+#![tactic(auto)]
+
 ghost use Rattle.std.specs.Prelude.{◌≡◌, ◌+◌, ◌≤◌, length};
 ghost use Rattle.meaning.specs.Table.{Sound};
 ghost use Rattle.lines.specs.Applying.{halted_at, Stepped, AppliedFrom, AppliedLines};

@@ -1,5 +1,7 @@
 // Leaves over the records of a log, four words a row, lent as a part that starts anywhere: carried, closed up.
 // They know no offset: where a log stands is the caller's to say. Inner functions: what they require, the table's code shows.
+#![tactic(auto)]
+
 ghost use Rattle.std.specs.Prelude.{◌≡◌, [], ◌∷◌, ◌+◌, ◌*◌, ◌≤◌, ◌<◌, length};
 ghost use Rattle.meaning.specs.Rows.{newer, record_at, records};
 ghost use Rattle.logs.specs.Carry.{log_record, log_records, Carries, CarriesAll, Puts, goes, stay, Barred, AllBarred, FirstLeaving, Closes};

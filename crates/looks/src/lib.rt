@@ -1,4 +1,6 @@
 // Words of a sound table, read through their offsets.
+#![tactic(auto)]
+
 ghost use Rattle.std.specs.Prelude.{◌≡◌, ◌≤◌, ◌<◌};
 ghost use Rattle.meaning.specs.Table.{nodes_most, log_most, count, held, mark, node, Sound};
 ghost use Rattle.meaning.specs.Node.{own};

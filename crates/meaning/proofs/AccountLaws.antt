@@ -76,6 +76,7 @@ mem_has r (s ∷ ss) (Memᴰ.head e) =
 mem_has r (s ∷ ss) (Memᴰ.tail m) =
     let k = mem_has r ss m in
     by_test (same_record r s) (λ e. cc) (λ e. cc)
+mem_has r [] x' = elim x' [ ]
 
 pub mem_has_any : (r : Record) (l : List Record) → Mem r l → has r l ≡ true
 mem_has_any r l m = ∥∥₁_elim m (Bool-set (has r l) true) (mem_has r l)

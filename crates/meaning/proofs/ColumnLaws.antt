@@ -14,15 +14,15 @@ use Rattle.meaning.proofs.PieceLaws.{
   Region,
   region,
   Between,
-  Between·nil,
-  Between·cons,
+  Between-nil,
+  Between-cons,
   apart_between,
   Disjoint,
-  Disjoint·nil,
-  Disjoint·cons,
+  Disjoint-nil,
+  Disjoint-cons,
   Fills,
-  Fills·nil,
-  Fills·cons,
+  Fills-nil,
+  Fills-cons,
 }
 
 -- Where k columns of n entries stand, 16 words from one to the next
@@ -32,14 +32,14 @@ column_regions (suc k) at n = region at n ∷ column_regions k (at + 16) n
 
 pub between_columns : (k at n lo hi : ℕ) → n ≤ 16 → lo ≤ at → at + 16 * k ≤ hi → Between lo hi (column_regions k at n)
 unfolding column_regions
-between_columns zero at n lo hi w l h = Between·nil
-between_columns (suc k) at n lo hi w l h = Between·cons {r = region at n} l (omega arith) (between_columns k (at + 16) n lo hi w (omega arith) (omega arith))
+between_columns zero at n lo hi w l h = Between-nil
+between_columns (suc k) at n lo hi w l h = Between-cons {r = region at n} l (omega arith) (between_columns k (at + 16) n lo hi w (omega arith) (omega arith))
 
 pub disjoint_columns : (k at n : ℕ) → n ≤ 16 → Disjoint (column_regions k at n)
 unfolding column_regions
-disjoint_columns zero at n w = Disjoint·nil
+disjoint_columns zero at n w = Disjoint-nil
 disjoint_columns (suc k) at n w =
-    Disjoint·cons {r = region at n}
+    Disjoint-cons {r = region at n}
     (apart_between (at + 16) ((at + 16) + 16 * k) at n (column_regions k (at + 16) n)
     (between_columns k (at + 16) n (at + 16) ((at + 16) + 16 * k) w (omega arith) (omega arith))
     (λ u v. omega arith))
@@ -50,12 +50,12 @@ pub fills_columns :
     (cs : List (List ℕ)) (k at n : ℕ) → length cs ≡ k → ((q : ℕ) → q < length cs → length (get_or cs q []) ≡ n) →
     Fills (column_pieces at cs) (column_regions k at n)
 unfolding column_pieces column_regions
-fills_columns [] zero at n e long = Fills·nil
+fills_columns [] zero at n e long = Fills-nil
 fills_columns [] (suc k) at n e long = absurd (omega arith)
 fills_columns (c ∷ cs) zero at n e long = absurd (omega arith)
 fills_columns (c ∷ cs) (suc k) at n e long =
     let l = long 0 (omega arith) in
-    Fills·cons {x = piece at c} {r = region at n} refl (omega arith) (fills_columns cs k (at + 16) n (omega arith) (λ q h. long (suc q) (omega arith)))
+    Fills-cons {x = piece at c} {r = region at n} refl (omega arith) (fills_columns cs k (at + 16) n (omega arith) (λ q h. long (suc q) (omega arith)))
 
 pub among_columns :
     (cs : List (List ℕ)) (at q j : ℕ) → q < length cs → j ≡ at + 16 * q → Memᴰ (piece j (get_or cs q [])) (column_pieces at cs)

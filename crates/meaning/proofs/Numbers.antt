@@ -11,7 +11,7 @@ use Rattle.meaning.specs.Table.{Form, form_of, mark_at, Node, count, mark, node,
 use Rattle.meaning.specs.Node.{wrote, purged, raised}
 use Rattle.meaning.specs.Steps.{refusals, refusal, leaving, acted, after}
 use Rattle.meaning.specs.Frames.{line_tests, line_refusal}
-use Rattle.meaning.proofs.PieceLaws.{Region, region, Apart, Apart·cons}
+use Rattle.meaning.proofs.PieceLaws.{Region, region, Apart, Apart-cons}
 use Rattle.meaning.proofs.TableLaws.{regions, put_word_away, mark_word_away}
 use Rattle.meaning.proofs.RefusalLaws.{listed, first_listed}
 use Rattle.meaning.proofs.StepLaws.{
@@ -54,7 +54,7 @@ unfolding Outside
 put_outside t s p h x fits i out = go (out p h)
   where
     go : Apart i 1 (mark_of (form_of t) p ∷ regions (form_of t) (count t) p) → get_or (put_node p x t) i 0 ≡ get_or t i 0
-    go (Apart·cons marked apart) = put_word_away t s p h x fits i apart
+    go (Apart-cons marked apart) = put_word_away t s p h x fits i apart
 
 mark_outside :
     (t : List ℕ) (s : Sound t) (p : ℕ) (h : p < count t) (m i : ℕ) → Outside (form_of t) (count t) i → get_or (put_mark p m t) i 0 ≡ get_or t i 0
@@ -62,7 +62,7 @@ unfolding Outside
 mark_outside t s p h m i out = go (out p h)
   where
     go : Apart i 1 (mark_of (form_of t) p ∷ regions (form_of t) (count t) p) → get_or (put_mark p m t) i 0 ≡ get_or t i 0
-    go (Apart·cons marked apart) = mark_word_away t s p h m i (λ u v. marked u (omega arith))
+    go (Apart-cons marked apart) = mark_word_away t s p h m i (λ u v. marked u (omega arith))
 
 acted_outside : (t : List ℕ) (x : Action) → refusal t x ≡ 0 → (i : ℕ) → Outside (form_of t) (count t) i → get_or (acted t x) i 0 ≡ get_or t i 0
 unfolding acted

@@ -39,7 +39,7 @@ use Rattle.meaning.proofs.AccountLaws.{not_both, entry}
 use Rattle.meaning.proofs.AccountSteps.{Whole, each, gains_here, gains_other, taken_a, taken_b, taken_other}
 use Rattle.meaning.proofs.AccountTable.{Sure, sure_fresh, sure_befell, form_befell, stepped-accepted, stepped_refused}
 use Rattle.meaning.proofs.AccountRises.{rises_acted}
-use Rattle.meaning.proofs.OrderLaws.{Rising·nil}
+use Rattle.meaning.proofs.OrderLaws.{Rising-nil}
 use Rattle.meaning.proofs.OrderNodes.{Told, told_more, mark_behind, told_wrote, told-ended, told-purged, told_delivered}
 
 -- every node's delivered list beside the table's nodes and the account
@@ -167,7 +167,7 @@ ordered_fresh n lo hi =
       tells = λ q h.
           record {
             low = λ o j. omega (arith, fresh-mark Vectors n q (omega arith));
-            rises = Rising·nil;
+            rises = Rising-nil;
             exact = λ r. refl;
             above = λ r a. not_both false a refl;
           };

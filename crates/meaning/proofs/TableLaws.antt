@@ -58,18 +58,18 @@ use Rattle.meaning.proofs.PieceLaws.{
   Region,
   region,
   Apart,
-  Apart·nil,
-  Apart·cons,
+  Apart-nil,
+  Apart-cons,
   Inside,
   Disjoint,
-  Disjoint·nil,
-  Disjoint·cons,
+  Disjoint-nil,
+  Disjoint-cons,
   Fills,
-  Fills·nil,
-  Fills·cons,
+  Fills-nil,
+  Fills-cons,
   Between,
-  Between·nil,
-  Between·cons,
+  Between-nil,
+  Between-cons,
   apart_between,
   inside_between,
   apart_append,
@@ -275,23 +275,23 @@ regions f n p = rows_of f n p ++ rest_of f p
 -- the rows stand after the count, the rest after all rows
 between_rows : (f : Form) (n p : ℕ) → n ≤ nodes_most → p < nodes_most → Between 1 (1 + rows_most f) (rows_of f n p)
 between_rows Vectors n p hn hp =
-    Between·cons {r = summary_of n p} (omega arith) (omega arith) (Between·cons {r = acks_of n p} (omega arith) (omega arith) Between·nil)
+    Between-cons {r = summary_of n p} (omega arith) (omega arith) (Between-cons {r = acks_of n p} (omega arith) (omega arith) Between-nil)
 between_rows Columns n p hn hp = between_columns n (column_at p 0) n 1 4097 hn (omega arith) (omega arith)
 
 between_rest : (f : Form) (p : ℕ) → p < nodes_most → Between (1 + rows_most f) (form_words f) (rest_of f p)
 between_rest f p hp =
-    Between·cons {r = held_of f p} (omega arith) (omega arith) (Between·cons {r = log_of f p} (omega arith) (omega arith) Between·nil)
+    Between-cons {r = held_of f p} (omega arith) (omega arith) (Between-cons {r = log_of f p} (omega arith) (omega arith) Between-nil)
 
 disjoint_rows : (f : Form) (n p : ℕ) → n ≤ nodes_most → p < nodes_most → Disjoint (rows_of f n p)
 disjoint_rows Vectors n p hn hp =
-    Disjoint·cons {r = summary_of n p} (Apart·cons {r = acks_of n p} (omega arith) Apart·nil) (Disjoint·cons {r = acks_of n p} Apart·nil Disjoint·nil)
+    Disjoint-cons {r = summary_of n p} (Apart-cons {r = acks_of n p} (omega arith) Apart-nil) (Disjoint-cons {r = acks_of n p} Apart-nil Disjoint-nil)
 disjoint_rows Columns n p hn hp = disjoint_columns n (column_at p 0) n hn
 
 disjoint_node : (f : Form) (n p : ℕ) → n ≤ nodes_most → p < nodes_most → Disjoint (regions f n p)
 disjoint_node f n p hn hp =
     disjoint_append 1 (1 + rows_most f) (form_words f) (rows_of f n p) (rest_of f p)
     (between_rows f n p hn hp) (disjoint_rows f n p hn hp) (between_rest f p hp)
-    (Disjoint·cons {r = held_of f p} (Apart·cons {r = log_of f p} (omega arith) Apart·nil) (Disjoint·cons {r = log_of f p} Apart·nil Disjoint·nil))
+    (Disjoint-cons {r = held_of f p} (Apart-cons {r = log_of f p} (omega arith) Apart-nil) (Disjoint-cons {r = log_of f p} Apart-nil Disjoint-nil))
 
 inside_node : (f : Form) (n p m : ℕ) → n ≤ nodes_most → p < nodes_most → m ≡ form_words f → Inside m (regions f n p)
 inside_node f n p m hn hp e =
@@ -307,14 +307,14 @@ pub apart_node :
     Apart a k (regions f n p)
 apart_node f n p a k hn hp rows h₁ h₂ =
     apart_append a k (rows_of f n p) (rest_of f p) (apart_between 1 (1 + rows_most f) a k (rows_of f n p) (between_rows f n p hn hp) rows)
-    (Apart·cons {r = held_of f p} h₁ (Apart·cons {r = log_of f p} h₂ Apart·nil))
+    (Apart-cons {r = held_of f p} h₁ (Apart-cons {r = log_of f p} h₂ Apart-nil))
 
 -- and so is what stands within the rows and meets none of this node's
 apart_row :
     (f : Form) (n p a k : ℕ) → a + k ≤ 1 + rows_most f → Apart a k (rows_of f n p) → Apart a k (regions f n p)
 apart_row f n p a k inside rows =
     apart_append a k (rows_of f n p) (rest_of f p) rows
-    (Apart·cons {r = held_of f p} (λ u v. omega arith) (Apart·cons {r = log_of f p} (λ u v. omega arith) Apart·nil))
+    (Apart-cons {r = held_of f p} (λ u v. omega arith) (Apart-cons {r = log_of f p} (λ u v. omega arith) Apart-nil))
 
 -- a column of another node
 apart_column :
@@ -337,16 +337,16 @@ module _ (f : Form) (t : List ℕ) (long : length t ≡ form_words f) (high : co
 
   fills_rows : (g : Form) → Shaped g (count t) p x → Fills (row_pieces g p x) (rows_of g (count t) p)
   fills_rows Vectors y =
-      Fills·cons {x = piece (summary_at Vectors p) x.summary} {r = summary_of (count t) p} refl (omega (arith, y.summary_long))
-      (Fills·cons {x = piece (acks_at p) x.acks} {r = acks_of (count t) p} refl (omega (arith, y.acks_long)) Fills·nil)
+      Fills-cons {x = piece (summary_at Vectors p) x.summary} {r = summary_of (count t) p} refl (omega (arith, y.summary_long))
+      (Fills-cons {x = piece (acks_at p) x.acks} {r = acks_of (count t) p} refl (omega (arith, y.acks_long)) Fills-nil)
   fills_rows Columns y = fills_columns x.columns (count t) (column_at p 0) (count t) y.columns_long y.column_long
 
   fills : Fills (pieces f p x t) (regions f (count t) p)
   unfolding pieces
   fills =
       fills_append (row_pieces f p x) _ (rows_of f (count t) p) (rest_of f p) (fills_rows f fits)
-      (Fills·cons {x = piece (held_at f p) (length x.log ∷ [])} {r = held_of f p} refl (omega arith)
-      (Fills·cons {x = piece (log_at f p) (log_words p x t)} {r = log_of f p} refl (length-log_words p x t fits.log_short room) Fills·nil))
+      (Fills-cons {x = piece (held_at f p) (length x.log ∷ [])} {r = held_of f p} refl (omega arith)
+      (Fills-cons {x = piece (log_at f p) (log_words p x t)} {r = log_of f p} refl (length-log_words p x t fits.log_short room) Fills-nil))
 
   inside : Inside (length t) (regions f (count t) p)
   inside = inside_node f (count t) p (length t) high here long
@@ -458,7 +458,7 @@ module _ (t : List ℕ) (high : count t ≤ nodes_most) (p : ℕ) (h : p < count
     laid_summary_other Vectors long fits =
         laid_part_away Vectors t long high p h room x fits (summary_at Vectors q) (count t) (omega arith)
         (apart_row Vectors (count t) p (summary_at Vectors q) (count t) (omega arith)
-        (Apart·cons {r = summary_of (count t) p} (λ u v. other (omega arith)) (Apart·cons {r = acks_of (count t) p} (λ u v. omega arith) Apart·nil)))
+        (Apart-cons {r = summary_of (count t) p} (λ u v. other (omega arith)) (Apart-cons {r = acks_of (count t) p} (λ u v. omega arith) Apart-nil)))
     laid_summary_other Columns long fits =
         laid_part_away Columns t long high p h room x fits (summary_at Columns q) (count t) (omega arith)
         (apart_column (count t) p q q high (omega arith) (omega arith) (omega arith) other)
@@ -470,7 +470,7 @@ module _ (t : List ℕ) (high : count t ≤ nodes_most) (p : ℕ) (h : p < count
     laid_acks_other Vectors long fits =
         laid_part_away Vectors t long high p h room x fits (acks_at q) (count t) (omega arith)
         (apart_row Vectors (count t) p (acks_at q) (count t) (omega arith)
-        (Apart·cons {r = summary_of (count t) p} (λ u v. omega arith) (Apart·cons {r = acks_of (count t) p} (λ u v. other (omega arith)) Apart·nil)))
+        (Apart-cons {r = summary_of (count t) p} (λ u v. omega arith) (Apart-cons {r = acks_of (count t) p} (λ u v. other (omega arith)) Apart-nil)))
     laid_acks_other Columns long fits = refl
 
     laid_columns_other :

@@ -1,8 +1,9 @@
 // The types of the product: what a step carries and what is answered. They are plain data, by value.
 // What they mean stands in specs/, a file a subject; no function stands here.
+#![tactic(auto)]
 
 // A finding as a log keeps it, four words of a table: the node that wrote it, its timestamp, the block and the verdict.
-#[derive(Drop)]
+#[derive(Clone, Copy)]
 pub struct Record {
     pub origin: u32,
     pub timestamp: u32,
@@ -11,7 +12,7 @@ pub struct Record {
 }
 
 // What a step does: exactly one of four actions, each with its own fields, as wide as in the frame.
-#[derive(Drop)]
+#[derive(Clone, Copy)]
 pub enum Action {
     Write {
         node: u8,
@@ -35,7 +36,7 @@ pub enum Action {
 }
 
 // A step carries its line number and its action.
-#[derive(Drop)]
+#[derive(Clone, Copy)]
 pub struct Step {
     pub line: usize,
     pub action: Action,
@@ -43,7 +44,7 @@ pub struct Step {
 
 // What a step reports: a session how many records it carried to each side, a purge how many it removed and the node that lags, a delivery how many
 // it wrote into the list, a write nothing, and a refused step its number. Steps.antt gives the number and the values of each.
-#[derive(Drop)]
+#[derive(Clone, Copy)]
 pub enum Reply {
     Written,
     Carried { a: u32, b: u32 },
@@ -53,21 +54,21 @@ pub enum Reply {
 }
 
 // The smallest entry of a row, and the lowest place that has it: a node's number, where the row is one of a node's.
-#[derive(Drop)]
+#[derive(Clone, Copy)]
 pub struct Least {
     pub value: u32,
     pub at: usize,
 }
 
 // What is wrong with a line: the number of its refusal, and the place in the line, from 0, of the first character at fault. Two zeros are none.
-#[derive(Drop)]
+#[derive(Clone, Copy)]
 pub struct Fault {
     pub number: u32,
     pub place: usize,
 }
 
 // What a single line says: it starts a table of n nodes, it is a step, or it is refused, at a place in the line.
-#[derive(Drop)]
+#[derive(Clone, Copy)]
 pub enum Line {
     Begin { n: u8 },
     Act { step: Step },
@@ -75,7 +76,7 @@ pub enum Line {
 }
 
 // What writing a frame reports: its length, LF included, or a refusal.
-#[derive(Drop)]
+#[derive(Clone, Copy)]
 pub enum Framed {
     Length { bytes: usize },
     Refused { number: u32 },
@@ -83,7 +84,7 @@ pub enum Framed {
 
 // What the journal reader finds at its position: a start or a step with the place after its line, a refusal with its
 // place in the line, or the end.
-#[derive(Drop)]
+#[derive(Clone, Copy)]
 pub enum Next {
     Begin { n: u8, next: usize },
     Act { step: Step, next: usize },
@@ -93,7 +94,7 @@ pub enum Next {
 
 // How a journal's replay ends: at a refused line, with the place in it; with n nodes, all step lines and those refused; or, refused for its
 // table's or the journal's length, before a line is read, so that there is neither line nor place.
-#[derive(Drop)]
+#[derive(Clone, Copy)]
 pub enum Outcome {
     Bad {
         line: usize,
@@ -111,7 +112,7 @@ pub enum Outcome {
 }
 
 // What one line on a table answers: the reply, and the place in the line where it is the line that is refused, else 0.
-#[derive(Drop)]
+#[derive(Clone, Copy)]
 pub struct Answer {
     pub reply: Reply,
     pub place: usize,
@@ -119,7 +120,7 @@ pub struct Answer {
 
 // How far lines came on a table: the steps applied, how many of them were refused, where the reading stopped, and the
 // number of the refused line and its place in it, two zeros at the end.
-#[derive(Drop)]
+#[derive(Clone, Copy)]
 pub struct Progress {
     pub steps: usize,
     pub refused: usize,
@@ -129,7 +130,7 @@ pub struct Progress {
 }
 
 // The class of a verdict byte.
-#[derive(Drop)]
+#[derive(Clone, Copy)]
 pub enum Class {
     NotRead,
     PageCache,
@@ -140,7 +141,7 @@ pub enum Class {
 }
 
 // What a verdict count answers.
-#[derive(Drop)]
+#[derive(Clone, Copy)]
 pub enum Count {
     Counted {
         scrubbed: u32,

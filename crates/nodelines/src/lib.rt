@@ -1,5 +1,7 @@
 // The nodes' lines of a replay's text, written into a lent buffer by the parts of the crate `nodeparts`. Document 01, "Frames and journals": "one line a node".
 // Each function writes at a place and answers the place after what it wrote; its caller shows that there is room.
+#![tactic(auto)]
+
 ghost use Rattle.std.specs.Prelude.{◌+◌, ◌*◌, ◌≤◌, ◌<◌, length};
 ghost use Rattle.meaning.specs.Table.{nodes_most, node};
 ghost use Rattle.meaning.specs.Journals.{node_line, node_lines};

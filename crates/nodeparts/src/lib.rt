@@ -1,5 +1,7 @@
 // The parts of a node's line, written into a lent buffer: a row of a table, a held number. Document 01, "Frames and journals".
 // Each function writes at a place and answers the place after what it wrote; its caller shows that there is room.
+#![tactic(auto)]
+
 ghost use Rattle.std.specs.Prelude.{[], ◌∷◌, ◌+◌, ◌≤◌, ◌<◌, length};
 ghost use Rattle.meaning.specs.Table.{nodes_most, held};
 ghost use Rattle.meaning.specs.Journals.{said};

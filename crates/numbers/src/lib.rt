@@ -1,5 +1,7 @@
 // The numbers of one byte and of four that a line's digits spell, high byte first: by the characters, and by the digits' own numbers. Nothing here
 // knows a kind. Inner functions: what they require, `faults`, `contents`, `reading`, `six` and `turns` show.
+#![tactic(auto)]
+
 ghost use Rattle.std.specs.Prelude.{◌≡◌, ◌+◌, ◌*◌, ◌≤◌, ◌<◌};
 ghost use Rattle.meaning.specs.Frames.{digit_value};
 ghost use Rattle.numbers.specs.Numbers.{joined_at, Joins, field_at, Within};

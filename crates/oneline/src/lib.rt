@@ -1,5 +1,7 @@
 // What one line does to a table that is there already. Document 01, "Frames and journals".
 // The entry point, `apply_line`, takes any words and any bytes at all.
+#![tactic(auto)]
+
 ghost use Rattle.std.specs.Prelude.{◌≡◌, true};
 ghost use Rattle.meaning.specs.Frames.{wide};
 ghost use Rattle.looks.specs.Applied.{Applied};

@@ -1,5 +1,7 @@
 // What a session settles before it changes a word of a table known to be sound: which side finishes, what each begins with, and whether it has
 // room. Document 01, "The three actions". Inner functions: what they require, the table's entry points show.
+#![tactic(auto)]
+
 ghost use Rattle.std.specs.Prelude.{◌≡◌, ◌||◌, ◌+◌, ◌≤◌, ◌<◌, length, set, eqb};
 ghost use Rattle.meaning.specs.Table.{nodes_most, count, part, Sound};
 ghost use Rattle.openings.specs.Begun.{held_log, crowds, Shows, Starts};

@@ -1,5 +1,7 @@
 // The rows of at most 64 records by their pair of origin and block, in 64 slots with a chain each: no allocation, no list of more than 64.
 // Inner functions: what they require, the crate `verdicts` shows. Document 02, T-05.
+#![tactic(auto)]
+
 ghost use Rattle.std.specs.Prelude.{◌≡◌, not, ◌*◌, ◌-◌, ◌≤◌, ◌<◌, length, get_or, set};
 ghost use Rattle.meaning.specs.Rows.{record_at};
 ghost use Rattle.meaning.specs.Verdicts.{pair_of, same_pair};

@@ -1,4 +1,6 @@
 // The C library: what other programs call, on numbers and slices. include/pollencart.h declares it; each module holds one part.
+#![tactic(auto)]
+
 pub mod applies;
 pub mod counts;
 pub mod framing;

@@ -1,5 +1,7 @@
 // Purge: the records that every node has, and on vectors that were delivered here, leave a log. What they are held to is worked out once, a limit or, on
 // columns, a row of bars; the log's part is one for both forms.
+#![tactic(auto)]
+
 ghost use Rattle.std.specs.Prelude.{◌≡◌, ◌+◌, ◌-◌, ◌*◌, ◌≤◌, ◌<◌, length, replicate};
 ghost use Rattle.meaning.specs.declared.Action.TheVariants.{Purge};
 ghost use Rattle.meaning.specs.Rows.{least};
@@ -120,7 +122,7 @@ fn drop_rows(t: &mut [u32], p: usize, held: usize, barred: bool, bars: &[u32], l
 }
 
 // What is left of a log, and who holds the purge up.
-#[derive(Drop)]
+#[derive(Clone, Copy)]
 struct Cut {
     left: usize,
     at: usize,

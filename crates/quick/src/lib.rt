@@ -1,5 +1,7 @@
 // The quick way: whether a line of one of the kinds' lengths is accepted, sure in both directions. A line of 24 characters can only be a write, one
 // of 26 a session, one of six a start, a purge or a delivery. Inner functions: what they require, `contents`, `reading` and `words` show.
+#![tactic(auto)]
+
 ghost use Rattle.std.specs.Prelude.{◌≡◌, ◌<◌, length};
 ghost use Rattle.heads.specs.Heads.{is_outcome, short_of, accepted};
 

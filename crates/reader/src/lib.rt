@@ -1,5 +1,7 @@
 // "The journal reader holds the lent journal and its position": the struct, and thin functions over those of `journal` and `lineparts` on slice and place.
 // Document 01, "Frames and journals". What stands last is for a caller that keeps the place and has no reader.
+#![tactic(auto)]
+
 ghost use Rattle.std.specs.Prelude.{◌≡◌};
 ghost use Rattle.meaning.specs.Journals.{next_at};
 ghost use Rattle.finder.specs.Parts.{Part};

@@ -1,4 +1,6 @@
 // Frames read: what a single line says, whatever its bytes. Document 01, "Frames and journals".
+#![tactic(auto)]
+
 ghost use Rattle.std.specs.Prelude.{◌≡◌, ◌+◌, ◌<◌, length, get_or};
 ghost use Rattle.meaning.specs.Frames.{read_line, line_fault, line_values};
 

@@ -1,5 +1,7 @@
 // Leaves over one record, four words of a row: put, read, and held to a summary. They know no offset.
 // Inner functions: what they require, the table's code shows.
+#![tactic(auto)]
+
 ghost use Rattle.std.specs.Prelude.{◌≡◌, not, [], ◌∷◌, ◌+◌, ◌*◌, ◌≤◌, ◌<◌, length};
 ghost use Rattle.meaning.specs.Rows.{covers, record_at, words};
 ghost use Rattle.meaning.specs.Table.{place};

@@ -1,6 +1,8 @@
 // The replay program: a journal on standard input, what document 01 prints of it on standard output.
 // All that matters is `run::replay`; here stand a read to the end, a call and a write. Where the read or the write fails, a line on standard error
 // says why, and after a failed read nothing is printed.
+#![tactic(auto)]
+
 use input::Input;
 use libc::{STDIN_FILENO, STDOUT_FILENO};
 

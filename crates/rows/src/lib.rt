@@ -1,5 +1,7 @@
 // Leaves over one row of numbers, or one word of a list, lent as a part that starts anywhere.
 // They know no offset: where a row stands is the caller's to say. Inner functions: what they require, the table's code shows.
+#![tactic(auto)]
+
 ghost use Rattle.std.specs.Prelude.{◌≡◌, ◌&&◌, ◌||◌, cond, [], ◌∷◌, length, replicate, set, ltb, eqb};
 ghost use Prim.Native.Nat.{◌+◌, ◌≤◌, ◌<◌};
 ghost use Rattle.meaning.specs.Rows.{least, least_at, raise};

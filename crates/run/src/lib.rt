@@ -1,5 +1,7 @@
 // The run of a journal over a lent table: a fresh table, then each step of the journal, up to its end or the first refused line.
 // Document 01, "Frames and journals".
+#![tactic(auto)]
+
 ghost use Rattle.std.specs.Prelude.{◌≡◌, ◌≤◌, ◌<◌, length, true};
 ghost use Rattle.meaning.specs.Table.{Vectors, form_words, count_right};
 ghost use Rattle.text.specs.Text.{text_most};

@@ -1,5 +1,7 @@
 // The step of one line that is known to be as long as a session's and to begin with its kind, as `steplines` has it of a write and a purge.
 // Inner function of the loop over a journal's lines: what it requires, the loop shows.
+#![tactic(auto)]
+
 ghost use Rattle.meaning.specs.Table.{Sound};
 ghost use Rattle.meaning.specs.Frames.{read_line};
 ghost use Rattle.steplines.specs.StepLines.{Turned, Begins};

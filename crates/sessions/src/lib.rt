@@ -1,5 +1,7 @@
 // Session: two nodes of a table known to be sound trade what the other lacks. Document 01, "The three actions".
 // Inner functions: what they require, the table's entry points show.
+#![tactic(auto)]
+
 ghost use Rattle.std.specs.Prelude.{◌≡◌, ◌≤◌, ◌<◌};
 ghost use Rattle.meaning.specs.Table.{form_of, acks_wide, count, Sound};
 ghost use Rattle.meaning.specs.declared.Action.TheVariants.{Session};

@@ -1,5 +1,7 @@
 // A session's kind and fields as six words, by the quick way, as `six` has it of a write. Nothing is written for a line that is refused.
 // Inner functions: what they require, `words` shows.
+#![tactic(auto)]
+
 ghost use Rattle.std.specs.Prelude.{◌≡◌, length, leb};
 ghost use Rattle.numbers.specs.Numbers.{joined_at, Joins};
 ghost use Rattle.six.specs.Six.{met_words, Puts};

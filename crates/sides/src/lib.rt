@@ -1,5 +1,7 @@
 // One side of a session, on a table known to be sound: the records that it takes, and what its rows become. Document 01, "The three actions".
 // Inner functions: what they require, the table's entry points show.
+#![tactic(auto)]
+
 ghost use Rattle.std.specs.Prelude.{◌≡◌, true};
 ghost use Rattle.sides.specs.Ended.{settled, Settles, Merged, Merges, Sided, Sides, Takes, Took};
 

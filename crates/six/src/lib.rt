@@ -1,5 +1,7 @@
 // A write's kind and fields as six words, by the quick way: the digits' numbers are kept in an array of the function's own, and the fields joined from
 // them. Nothing is written for a line that is refused. A session's are `sessionwords`'. Inner functions: what they require, `words` shows.
+#![tactic(auto)]
+
 ghost use Rattle.std.specs.Prelude.{◌≡◌, [], ◌∷◌, length};
 ghost use Rattle.numbers.specs.Numbers.{Joins};
 ghost use Rattle.six.specs.Six.{write_words, Puts};

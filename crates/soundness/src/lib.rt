@@ -1,6 +1,8 @@
 // Whether a table is sound. Document 01, "The table"; the definition is `sound` of specs/Table.antt.
 // The scan reads each held record once, and without a branch for each: wrong origins are counted, and the verdicts' bits are taken together. Neither
 // waits for the record before, as a greatest word would, and so several records are looked at in one turn.
+#![tactic(auto)]
+
 ghost use Rattle.std.specs.Prelude.{◌≡◌, cond, ◌<◌, ◌≤◌, ◌*◌, length, ltb};
 ghost use Rattle.meaning.specs.Rows.{every, record_at};
 ghost use Rattle.meaning.specs.Table.{form_of, form_words, nodes_most, log_most, count, record_sound, log_sound, sound};

@@ -1,4 +1,6 @@
 // Bytes as their digits. Document 01, "Frames and journals". Inner functions: what they require, the frames' code shows.
+#![tactic(auto)]
+
 ghost use Rattle.std.specs.Prelude.{◌≡◌, [], ◌∷◌, ◌+◌, ◌*◌, ◌≤◌, ◌<◌, length};
 ghost use Rattle.meaning.specs.Table.{place};
 ghost use Rattle.meaning.specs.Frames.{digit, spelled};

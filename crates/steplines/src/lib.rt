@@ -1,6 +1,8 @@
 // The step of one line that is known to be as long as a write's and to begin with its kind, or to have six characters: the step's function takes
 // the numbers of the digits. What is not told so to be a step is left to the reader of lines. A session's line is `sessionline`'s.
 // Inner functions of the loop over a journal's lines: what they require, it shows.
+#![tactic(auto)]
+
 ghost use Rattle.std.specs.Prelude.{◌≡◌, length, get_or};
 ghost use Rattle.meaning.specs.Table.{Sound};
 ghost use Rattle.meaning.specs.Frames.{read_line};

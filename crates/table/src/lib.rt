@@ -1,5 +1,7 @@
 // The lent table: a fresh one, and one step applied. Document 01, "The table" and "The three actions".
 // The entry points, `fresh`, `apply` and those of `act`, take any words at all; what the crates below them require, they have shown.
+#![tactic(auto)]
+
 
 ghost use Rattle.std.specs.Prelude.{◌≡◌};
 ghost use Rattle.meaning.specs.Table.{fresh_refusal, made_fresh, Sound};

@@ -1,5 +1,7 @@
 // The printed text of a replay, written into a lent buffer: its first line, of the crate `textlines`, and the nodes' lines, of `nodelines`.
 // Document 01, "Frames and journals". Each inner function answers the place after what it wrote.
+#![tactic(auto)]
+
 ghost use Rattle.std.specs.Prelude.{◌++◌, ◌≤◌, length};
 ghost use Rattle.meaning.specs.Table.{nodes_most};
 ghost use Rattle.meaning.specs.Journals.{node_lines};

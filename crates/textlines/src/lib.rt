@@ -1,5 +1,7 @@
 // The lines of a replay's text that are not a node's, written from place 0 of a lent buffer. Document 01, "Frames and journals".
 // Each answers the place after what it wrote; its caller shows that there is room.
+#![tactic(auto)]
+
 ghost use Rattle.std.specs.Prelude.{◌≤◌, length};
 ghost use Rattle.printing.specs.Wrote.{Wrote};
 ghost use Rattle.textlines.specs.TextLines.{bad_line, unread_line, first_line};

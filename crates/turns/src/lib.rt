@@ -1,6 +1,8 @@
 // One line of a journal as one turn of the loop over its lines, where it can be told at once: the kind's two characters tell the length, an LF ends
 // it there, and the kind's function takes its step. What is no step, or is not told so, is left to the reader of lines.
 // Inner functions of the loop: what they require, it shows.
+#![tactic(auto)]
+
 ghost use Rattle.std.specs.Prelude.{◌≡◌, ◌≤◌, length};
 ghost use Rattle.meaning.specs.Table.{Sound};
 ghost use Rattle.steplines.specs.StepLines.{Turned};

@@ -1,4 +1,6 @@
 // The verdict count. Document 01, "Verdict count"; document 02, T-05; the definitions are those of specs/Verdicts.antt.
+#![tactic(auto)]
+
 ghost use Rattle.std.specs.Prelude.{◌≡◌, true, cond, ◌-◌, ◌*◌, ◌/◌, ◌%◌, ◌<◌, ◌≤◌, length};
 ghost use Rattle.meaning.specs.Rows.{record_at};
 ghost use Rattle.meaning.specs.Table.{form_of, form_words, nodes_most, log_most, held, sound};

@@ -1,5 +1,7 @@
 // Words and numbers after them, printed into a lent buffer. Document 01, "Frames and journals": what the replay prints.
 // Each function writes at a place and answers the place after what it wrote; its caller shows that there is room.
+#![tactic(auto)]
+
 ghost use Rattle.std.specs.Prelude.{[], ◌∷◌, ◌++◌, ◌+◌, ◌*◌, ◌≤◌, length};
 ghost use Rattle.meaning.specs.Journals.{spaced};
 ghost use Rattle.printing.specs.Wrote.{Wrote};

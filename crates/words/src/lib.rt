@@ -1,4 +1,6 @@
 // A line read in one call: its refusal and its place, and its kind and fields in lent words. Document 01, "Frames and journals".
+#![tactic(auto)]
+
 ghost use Rattle.std.specs.Prelude.{◌≡◌, [], ◌<◌, length};
 ghost use Rattle.meaning.specs.Frames.{words_fault, ReadWords};
 ghost use Rattle.six.specs.Six.{Puts};

@@ -1,4 +1,6 @@
 // Write: one record more at its node.
+#![tactic(auto)]
+
 ghost use Rattle.std.specs.Prelude.{◌≡◌, ◌<◌};
 ghost use Rattle.meaning.specs.declared.Action.TheVariants.{Write};
 ghost use Rattle.meaning.specs.Table.{log_most, count, held, node, put_node, Sound};

@@ -1,4 +1,6 @@
 // Frames written: a step's frame and a start's, into lent bytes. Document 01, "Frames and journals".
+#![tactic(auto)]
+
 ghost use Rattle.meaning.specs.Frames.{Wrote, Began};
 
 use meaning::{Action, Framed, Step};
