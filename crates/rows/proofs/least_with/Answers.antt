@@ -1,10 +1,9 @@
 -- `rows::least_with` meets its contract: the invariant says that `low` stands at `at` in the row with v in its place, that no entry passed is smaller,
 -- and that every entry passed before `at` is greater. At the end no other number and no other place have these facts (`RowLaws.leastAt-is`).
 use mathlib.Core.Path.{◌≡◌, refl, ap, sym, ◌∙◌}
-use mathlib.Core.Logic.{⊎_elim}
 use mathlib.Core.Bool.{◌&&◌, ◌||◌, cond}
 use mathlib.Core.List.{List}
-use Prim.Native.Nat.{ℕ, ◌+◌, ◌-◌, ◌≤◌, ◌<◌, min}
+use Prim.Native.Nat.{ℕ, ◌+◌, ◌≤◌, ◌<◌, min}
 use native.Mathlib.Omega.{arith}
 use native.Mathlib.Decide.{dec_lt, dec_le}
 use lib.Dec.{ltb, eqb}
@@ -14,17 +13,9 @@ use borrow.Author.Tests.{lt-ltb, le-ltb, eq-eqb, ne_eqb}
 use Rattle.meaning.specs.Rows.{least, least_at}
 use Rattle.meaning.proofs.RowLaws.{least_at_is}
 use borrow.Author.Rules.{rules}
-use Rattle.rows.proofs.least_with.Statement.{statement}
-use Rattle.rows.proofs.least_with.Tie as tie
-
--- the smallest of entry i and the first k entries, at its lowest place among them
-record Found (xs : List ℕ) (i low at k : ℕ) : Type 0 where
-  inside : at < length xs
-  stands : low ≡ get_or xs at 0
-  most : low ≤ get_or xs i 0
-  passed : (at ≡ i → ⊥) → at < k
-  none : (j : ℕ) → j < k → low ≤ get_or xs j 0
-  before : (j : ℕ) → j < k → j < at → low < get_or xs j 0
+use Rattle.rows.proofs.least_with.Invariants.{Found}
+use Rattle.rows.proofs.least_with.Goals as goal
+use Rattle.rows.proofs.least_with.Goals.{then-k-i, else-k-i}
 
 -- the place that the code takes
 abbrev placed : ℕ → ℕ → ℕ → ℕ → ℕ → ℕ
@@ -161,82 +152,29 @@ module _ (row : List ℕ) (i v : ℕ) (h : i < length row) where
       in
       (e ∙ both.0, both.1)
 
-abbrev invariant_loop : tie.invariant_loop
-invariant_loop row i v low₀ at₀ k₀ low at k = (k ≤ length row) × Found (set row i v) i low at k
+pub loop-k-init : goal.loop-k-init
+loop-k-init c =
+    (search rules, starts c.args.row.now c.args.i c.args.v c.requires)
 
-abbrev decreases_loop : tie.decreases_loop
-decreases_loop row i v low₀ at₀ k₀ low at k = length row - k
-
-loop_holds : tie.Need-loop-init invariant_loop decreases_loop
-loop_holds c =
-    let start = c.before in
-    (search rules, starts start.args.row.now start.args.i start.args.v start.requires)
-
-mul_place_of : tie.Need-overflow-mul-place-of invariant_loop decreases_loop
-mul_place_of c = search rules
-
-shared_slice_read_place_of : tie.Need-shared-slice-read-place-of invariant_loop decreases_loop
-shared_slice_read_place_of c = search rules
-
-place_of_requires : tie.Need-place-of-requires invariant_loop decreases_loop
-place_of_requires c κs = search rules
-
-mul_min_of : tie.Need-overflow-mul-min-of invariant_loop decreases_loop
-mul_min_of c = search rules
-
-shared_slice_read_min_of : tie.Need-shared-slice-read-min-of invariant_loop decreases_loop
-shared_slice_read_min_of c = search rules
-
-min_of_requires : tie.Need-min-of-requires invariant_loop decreases_loop
-min_of_requires c κs = search rules
-
-add_k : tie.Need-overflow-add-k invariant_loop decreases_loop
-add_k c = search rules
-
-loop_less : tie.Need-loop-smaller invariant_loop decreases_loop
-loop_less c = search rules
-
-loop_again : tie.Need-loop-preserved invariant_loop decreases_loop
-loop_again c =
-    let at_loop = c.before.before in
-    let start = at_loop.before.before in
-    let row = start.args.row.now in
-    let i = start.args.i in
-    let v = start.args.v in
-    let k = at_loop.loop.k in
-    let inv = at_loop.loop.invariant in
-    let low = at_loop.loop.low in
-    let at = at_loop.loop.at in
+pub loop-k-preserved : goal.loop-k-preserved
+loop-k-preserved c =
+    let row = c.args.row.now in
+    let i = c.args.i in
+    let v = c.args.v in
+    let k = c.loop-k.k in
+    let inv = c.loop-k.invariant in
+    let low = c.loop-k.low in
+    let at = c.loop-k.at in
     let inside : k < length row = omega arith in (
       omega arith,
-      ⊎_elim
-          (λ w. other row i v start.requires low at k (get_or row k 0) c.if1.low c.if1.at inside w.0.taken inv.1 refl
-          (w.5 ∙ w.4.ensures) (w.6 ∙ w.2.ensures))
-          (λ w. same row i v start.requires low at k c.if1.low c.if1.at inside w.0.left inv.1 w.1 w.2)
-          c.if1.branch,
+      elim c.if-k-i.branch [
+        | then-k-i w ↦ other row i v c.requires low at k (get_or row k 0) c.if-k-i.low c.if-k-i.at inside w.if-k-i.true inv.1 refl
+            (w.low-is ∙ w.min_of-low.ensures) (w.at-is ∙ w.place_of-at.ensures)
+        | else-k-i w ↦ same row i v c.requires low at k c.if-k-i.low c.if-k-i.at inside w.if-k-i.false inv.1 w.low-is w.at-is
+      ],
     )
 
-returns : tie.Need-returns invariant_loop decreases_loop
+pub returns : goal.returns
 returns c =
-    let at_loop = c.before in
-    let start = at_loop.before.before in
-    whole start.args.row.now start.args.i start.args.v start.requires at_loop.loop.low at_loop.loop.at at_loop.loop.k (omega arith)
-    at_loop.loop.invariant.1
-
-pub least_with_spec : {M : Type 1} → statement M
-least_with_spec =
-    tie.close
-    (tie.spec
-    invariant_loop
-    decreases_loop
-    loop_holds
-    mul_place_of
-    shared_slice_read_place_of
-    place_of_requires
-    mul_min_of
-    shared_slice_read_min_of
-    min_of_requires
-    add_k
-    loop_less
-    loop_again
-    returns)
+    whole c.args.row.now c.args.i c.args.v c.requires c.loop-k.low c.loop-k.at c.loop-k.k (omega arith)
+    c.loop-k.invariant.1
