@@ -1,0 +1,17 @@
+-- `columns::raise_from` meets its contract: the invariant says that the words passed are raised; those they are raised by stay as they were.
+use mathlib.Core.Path.{◌≡◌, refl, sym, ap, ◌∙◌}
+use mathlib.Core.List.{List}
+use Prim.Native.Nat.{ℕ, ◌+◌, ◌-◌, ◌≤◌, ◌<◌, max}
+use native.Mathlib.Omega.{arith}
+use lib.ListN.{length, get_or, length-set}
+use Rattle.meaning.specs.Table.{part, place}
+use Rattle.meaning.proofs.PlaceLaws.{length_part, get_d_part, get_or_away}
+use Rattle.columns.proofs.RaiseLaws.{raised_to, length_raised_to, raised-none, raised_more, raised_all}
+use borrow.Author.Rules.{rules}
+use Rattle.columns.proofs.raise_from.Given as goal
+
+abbrev pub invariant-loop-i : goal.invariant-loop-i
+invariant-loop-i l = (l.i ≤ l.n) × (length l.t ≡ length l.initial.t) × (l.t ≡ place l.to (raised_to l.i (part l.to l.n l.initial.t) (part l.from l.n l.initial.t)) l.initial.t)
+
+abbrev pub decreases-loop-i : goal.decreases-loop-i
+decreases-loop-i l = l.n - l.i

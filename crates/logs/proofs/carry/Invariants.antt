@@ -1,0 +1,28 @@
+-- `logs::carry` meets its contract: the invariant says that the newer records of the rows passed stand at `to` and the rest is as it was.
+use mathlib.Core.Path.{◌≡◌, refl, ap, ap₂, sym, ◌∙◌}
+use mathlib.Core.List.{List, [], ◌∷◌, ◌++◌}
+use Prim.Native.Nat.{ℕ, ◌+◌, ◌*◌, ◌-◌, ◌≤◌, ◌<◌}
+use native.Mathlib.Omega.{arith}
+use lib.ListN.{length, length-append}
+use Rattle.meaning.specs.declared.Record.{Record}
+use Rattle.meaning.specs.Rows.{newer, record_at, records, words}
+use Rattle.meaning.specs.Table.{log_most, part, place, record_sound}
+use Rattle.meaning.proofs.PlaceLaws.{place_none, place-append, part_away}
+use Rattle.meaning.proofs.RowLaws.{newer-row, newer-none, newer_grows, words-none, words_append, length-words, length-newer, length-records, all_row}
+use Rattle.meaning.proofs.TableLaws.{origin_below}
+use Rattle.logs.specs.Carry.{log_record, log_records, Carries, CarriesAll, Puts}
+use borrow.Author.Rules.{rules}
+use Rattle.logs.proofs.carry.Given as goal
+
+-- the newer of the first i records, and the table with them carried
+abbrev pub sent : List ℕ → ℕ → ℕ → List ℕ → List Record
+sent s from i t = newer s (log_records from i t)
+
+abbrev pub carried_to : List ℕ → ℕ → ℕ → ℕ → List ℕ → List ℕ
+carried_to s from to i t = place to (words (sent s from i t)) t
+
+abbrev pub invariant-loop-i : goal.invariant-loop-i
+invariant-loop-i l = (l.i ≤ l.held) × (length l.t ≡ length l.initial.t) × (l.k ≡ length (sent l.summary l.from l.i l.initial.t)) × (l.t ≡ carried_to l.summary l.from l.to l.i l.initial.t)
+
+abbrev pub decreases-loop-i : goal.decreases-loop-i
+decreases-loop-i l = l.held - l.i
