@@ -5,8 +5,11 @@
 ghost use Rattle.std.specs.Prelude.{◌≡◌, ◌<◌, length, take};
 ghost use Rattle.input.specs.Reading.{read_to, Within};
 
+use std::io;
+use std::io::{ErrorKind, Read};
+
 // How far an input has been read: so many bytes have come and more may follow, it ended after so many, it filled the lent bytes before it
-// ended, or a read failed, and errno says why.
+// ended, or a read failed.
 #[derive(Clone, Copy)]
 pub enum Input {
     More(usize),
@@ -37,22 +40,34 @@ fn read_to(lent: usize, at: usize, interrupted: bool, got: isize) -> Input
     Input::Full
 }
 
-// One read into the bytes from `at` on: those before it, which came earlier, stay as they are.
-fn read_on(fd: i32, bytes: &mut [u8], at: usize) -> Input
+// One read into the bytes from `at` on: those before it, which came earlier, stay as they are. Where the read failed, `failure` says why.
+fn read_on<R: Read>(
+    source: &mut R,
+    bytes: &mut [u8],
+    at: usize,
+    failure: &mut io::Result<()>,
+) -> Input
     requires { at < length bytes.old }
     ensures bytes_len_unchanged { length bytes.new ≡ length bytes.old }
     ensures bytes_unchanged { take at bytes.new ≡ take at bytes.old }
     ensures within { Within (length bytes.old) result }
 {
     let lent = bytes.len();
-    let got = libc::read(fd, &mut bytes[at..lent]);
-    let interrupted = os::errno() == libc::EINTR;
+    let mut got: isize = -1;
+    let mut interrupted = false;
+    match source.read(&mut bytes[at..lent]) {
+        Ok(count) => got = count as isize,
+        Err(e) => {
+            interrupted = e.kind() == ErrorKind::Interrupted;
+            *failure = Err(e);
+        }
+    }
     read_to(lent, at, interrupted, got)
 }
 
-// Reads to the end, the last lent byte or a failure. A proved loop has to end, and nothing says that an input does or that signals stop, so it
-// counts its turns down from a number that no run uses up; if one did, the answer would be `More`.
-pub fn read_all(fd: i32, bytes: &mut [u8]) -> Input
+// Reads to the end, the last lent byte or a failure, and `failure` says then why. A proved loop has to end, and nothing says that an input does or that
+// signals stop, so it counts its turns down from a number that no run uses up; if one did, the answer would be `More`.
+pub fn read_all<R: Read>(source: &mut R, bytes: &mut [u8], failure: &mut io::Result<()>) -> Input
     ensures bytes_len_unchanged { length bytes.new ≡ length bytes.old }
     ensures within { Within (length bytes.old) result }
 {
@@ -65,7 +80,7 @@ pub fn read_all(fd: i32, bytes: &mut [u8]) -> Input
         let Input::More(at) = input else {
             return input;
         };
-        input = read_on(fd, bytes, at);
+        input = read_on(source, bytes, at, failure);
         turns -= 1;
     }
     input
