@@ -1,7 +1,6 @@
 -- `columns::lowest` meets its contract: the invariant says that the row is the smallest of the columns passed, and that `low` is the smallest entry of all
 -- of them and stands in column `at` and in none before it.
 use mathlib.Core.Path.{◌≡◌, sym, ap, ap₂, ◌∙◌}
-use mathlib.Core.Logic.{⊎_elim}
 use mathlib.Core.List.{List, [], map}
 use Prim.Native.Nat.{ℕ, ◌+◌, ◌-◌, ◌≤◌, ◌<◌}
 use native.Mathlib.Numerals.{add-one}
@@ -18,6 +17,7 @@ use Rattle.columns.proofs.LayLaws.{node_columns_are, length-columns_of, get_or-c
 use Rattle.columns.proofs.LowerLaws.{ lower_self, lowest_one, lowest_more, least_of, First, first_one, first_less, first_stays, first-all, lagging_columns, }
 use borrow.Author.Rules.{rules}
 use Rattle.columns.proofs.lowest.Invariants.{Lowered}
+use Rattle.columns.proofs.lowest.Goals.{then-least-low, else-least-low}
 use Rattle.columns.proofs.lowest.Goals as goal
 
 module _ (row₀ t : List ℕ) (p n : ℕ) (r : Lowers row₀ t p n) where
@@ -160,12 +160,14 @@ loop-q-preserved c =
       omega arith,
       omega arith,
       search rules,
-      ⊎_elim
-          (λ w. less row₀ t p n c.requires k inv.0 (omega arith) row low at inv.2 inv.3 next v c.if-least-low.low c.if-least-low.at e (omega arith)
-          w.1 w.2)
-          (λ w. stays row₀ t p n c.requires k inv.0 (omega arith) row low at inv.2 inv.3 next v c.if-least-low.low c.if-least-low.at e (omega arith)
-          w.1 w.2)
-          c.if-least-low.branch,
+      elim c.if-least-low.branch [
+        then-least-low w ↦
+            less row₀ t p n c.requires k inv.0 (omega arith) row low at inv.2 inv.3 next v c.if-least-low.low c.if-least-low.at e (omega arith)
+            w.low-is w.at-is
+        | else-least-low w ↦
+            stays row₀ t p n c.requires k inv.0 (omega arith) row low at inv.2 inv.3 next v c.if-least-low.low c.if-least-low.at e (omega arith)
+            w.low-is w.at-is
+      ],
     )
 
 pub returns : goal.returns
