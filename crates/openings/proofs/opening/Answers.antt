@@ -74,12 +74,12 @@ module _ (t : List ℕ) (p n c : ℕ) {at : ℕ} {row : List ℕ} (pre : Sound t
 pub returns-then-has_columns : goal.returns-then-has_columns
 returns-then-has_columns c =
     let form = has_columns (form_of c.args.t.now) c.has_columns.result c.has_columns.ensures c.if-has_columns.true in
-    on_columns c.args.t.now c.args.p c.args.n c.args.reading c.requires.1
+    on_columns c.args.t.now c.args.p c.args.n c.args.reading c.requires.sound
     c.summary_at-at.ensures.0 c.row_with.ensures form c.args.acks.now
 
 pub returns : goal.returns
 returns c =
     let form = has_vectors (form_of c.args.t.now) c.has_columns.result c.has_columns.ensures c.if-has_columns.false in
-    on_vectors c.args.t.now c.args.p c.args.n c.args.reading c.requires.1
+    on_vectors c.args.t.now c.args.p c.args.n c.args.reading c.requires.sound
     c.summary_at-at.ensures.0 c.row_with.ensures form c.row_with-2.new.row
     c.acks_at.ensures c.least_with-low.ensures.0 c.row_with-2.ensures

@@ -1,7 +1,6 @@
 -- `soundness::logs_sound`. The invariant: every log passed is sound.
-use mathlib.Core.Path.{ap}
-use mathlib.Core.Path.{◌≡◌, sym, ◌∙◌}
-use mathlib.Core.Bool.{true}
+use mathlib.Core.Path.{◌≡◌, sym, ap, ◌∙◌}
+use mathlib.Core.Bool.{true, not}
 use Prim.Native.Nat.{◌≤◌, ◌-◌}
 use native.Mathlib.Omega.{arith}
 use borrow.Author.Rules.{rules}
@@ -26,7 +25,7 @@ loop-p-smaller c = omega arith
 
 pub loop-p-preserved : goal.loop-p-preserved
 loop-p-preserved c =
-    (omega arith, every_last _ _ c.loop-p.invariant.1 (sym c.log_sound.ensures ∙ not-false c.log_sound.result c.if-not-log_sound.false))
+    (omega arith, every_last _ _ c.loop-p.invariant.1 (sym c.log_sound.ensures ∙ not-false c.log_sound.result (ap not c.if-not-log_sound.false)))
 
 pub returns : goal.returns
 returns c = every_whole _ _ _ c.loop-p.invariant.0 (omega arith) c.loop-p.invariant.1
