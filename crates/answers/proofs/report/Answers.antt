@@ -1,9 +1,8 @@
 -- `report` meets its contract.
 use native.Mathlib.Omega.{arith}
 use Rattle.answers.proofs.ValueLaws.{length_case}
-use borrow.Author.Rules.{rules}
 use Rattle.answers.proofs.report.Goals as goal
 
 pub overflow_cast-length : goal.overflow_cast-length
 overflow_cast-length c =
-    omega (arith, length_case c.args.answer c.answer-1.given.0.0 c.answer-1.given.1 c.requires)
+    omega (arith, length_case c.args.answer c.in-Length.bytes c.in-Length.is c.requires)
