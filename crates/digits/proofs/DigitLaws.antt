@@ -1,7 +1,7 @@
 -- Laws of a line's digits: a character's number, the pass over a line, and the digits' numbers.
 use Rattle.std.proofs.Common.{◌≡◌, ℕ, zero, suc, ◌+◌, ◌-◌, ◌*◌, ◌/◌, ◌%◌, ◌<◌, ◌≤◌, Bool, true, false, cond, ◌&&◌, leb, List, [], ◌∷◌, ◌++◌, length, get_or, take, set, sym, refl, ap, ◌∙◌, add-one, arith, length-set, take_all, take-suc, take-suc-set, below_more, eq-eqb, ne_eqb, le-leb, leb-true}
 use lib.Bits.{bit_or, or_lt}
-use Rattle.meaning.specs.Frames.{digit, digit_value, bytes_of, all_digits, total}
+use Rattle.meaning.specs.Frames.{digit_value, bytes_of, all_digits, total}
 use Rattle.meaning.proofs.BitLaws.{or_left, or_right}
 use Rattle.meaning.proofs.FrameLaws.{length-bytes_of, byte_at, digits_at, digits_all, total-append}
 use Rattle.digits.specs.Digits.{letter_value, weigh, sum_of, values_of}

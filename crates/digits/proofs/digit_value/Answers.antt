@@ -1,5 +1,5 @@
 -- `digit_value` meets its contract: each arm has its law.
-use Rattle.std.proofs.Common.{sym, ◌∙◌, arith, rules}
+use Rattle.std.proofs.Common.{sym, ◌∙◌, arith}
 use Rattle.meaning.proofs.FrameLaws.{digit-decimal}
 use Rattle.digits.proofs.DigitLaws.{digit_other}
 use Rattle.digits.proofs.digit_value.Goals as goal

@@ -1,5 +1,5 @@
 -- `letter` meets its contract: each arm has its law.
-use Rattle.std.proofs.Common.{arith, rules}
+use Rattle.std.proofs.Common.{arith}
 use Rattle.digits.proofs.DigitLaws.{letter_some, letter_none}
 use Rattle.digits.proofs.letter.Goals as goal
 

@@ -1,5 +1,5 @@
 -- `stray_at` meets its contract: the loop's invariant is that all characters passed are digits.
-use Rattle.std.proofs.Common.{ℕ, ◌-◌, ◌<◌, ◌≤◌, length, sym, arith, rules, below_more}
+use Rattle.std.proofs.Common.{sym, arith, below_more}
 use Rattle.meaning.proofs.FrameLaws.{digits_all, stray_here, stray_none}
 use Rattle.digits.proofs.DigitLaws.{Digit}
 use Rattle.digits.proofs.stray_at.Goals as goal

@@ -1,6 +1,6 @@
 -- `total` meets its contract: the loop's invariant is what the bits seen tell of the characters passed, and the sum of their bytes.
-use Rattle.std.proofs.Common.{◌-◌, ◌≤◌, length, arith, rules}
-use Rattle.digits.proofs.DigitLaws.{ Seen, seen_none, seen_more, seen_all, seen_stray, Sum, sum-none, sum_more, sum-all, sum_stray, sum_right, }
+use Rattle.std.proofs.Common.{arith}
+use Rattle.digits.proofs.DigitLaws.{seen_none, seen_more, seen_all, seen_stray, sum-none, sum_more, sum-all, sum_stray, sum_right}
 use Rattle.digits.proofs.total.Goals as goal
 
 pub loop-k-init : goal.loop-k-init
@@ -19,7 +19,7 @@ loop-k-preserved c =
     let w = c.weighed in
     let seen = seen_more s loop.seen loop.k v.result (omega arith) v.ensures loop.invariant.2 in
     let sum = sum_more s loop.k v.result w.result loop.sum (omega arith) v.ensures w.ensures loop.invariant.3 in
-    (omega arith, omega (arith, c.wrapping_add_u8-sum.ensures), seen, sum c.wrapping_add_u8-sum.result c.wrapping_add_u8-sum.ensures)
+    (omega arith, omega (arith, c.wrapping_add_u8-sum.ensures), seen, sum c.wrapping_add_u8-sum.result c.wrapping_add_u8-sum.ensures.value)
 
 pub returns-then-seen-gt15 : goal.returns-then-seen-gt15
 returns-then-seen-gt15 c =

@@ -1,6 +1,6 @@
 -- `total` meets its contract: the loop's invariant is what the bits seen tell of the characters passed, and the sum of their bytes.
-use Rattle.std.proofs.Common.{◌-◌, ◌≤◌, length, arith, rules}
-use Rattle.digits.proofs.DigitLaws.{ Seen, seen_none, seen_more, seen_all, seen_stray, Sum, sum-none, sum_more, sum-all, sum_stray, sum_right, }
+use Rattle.std.proofs.Common.{◌-◌, ◌≤◌, length}
+use Rattle.digits.proofs.DigitLaws.{Seen, Sum}
 use Rattle.digits.proofs.total.Given as goal
 
 abbrev pub invariant-loop-k : goal.invariant-loop-k

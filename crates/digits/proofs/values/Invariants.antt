@@ -1,6 +1,6 @@
 -- `values` meets its contract: the loop's invariant is what the bits seen tell of the characters passed, the sum of their bytes, and their numbers in v.
-use Rattle.std.proofs.Common.{◌-◌, ◌≤◌, length, refl, arith, rules}
-use Rattle.digits.proofs.DigitLaws.{ Seen, seen_none, seen_more, seen_all, seen_stray, Sum, sum-none, sum_more, sum-all, sum_stray, sum_right, Valued, valued_more, valued_all, }
+use Rattle.std.proofs.Common.{◌-◌, ◌≤◌, length}
+use Rattle.digits.proofs.DigitLaws.{Seen, Sum, Valued}
 use Rattle.digits.proofs.values.Given as goal
 
 abbrev pub invariant-loop-k : goal.invariant-loop-k

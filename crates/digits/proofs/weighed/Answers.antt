@@ -1,5 +1,5 @@
 -- `weighed` meets its contract: by the place's parity.
-use Rattle.std.proofs.Common.{sym, rules}
+use Rattle.std.proofs.Common.{sym}
 use Rattle.digits.proofs.DigitLaws.{weigh_even, weigh_odd}
 use Rattle.digits.proofs.weighed.Goals as goal
 
