@@ -2,7 +2,6 @@
 use native.Mathlib.Omega.{arith}
 use lib.ListN.{length-set}
 use Rattle.spelling.proofs.SpellLaws.{put_pair}
-use borrow.Author.Rules.{rules}
 use Rattle.spelling.proofs.put_byte.Goals as goal
 
 pub bounds-out-at-2 : goal.bounds-out-at-2

@@ -1,12 +1,8 @@
 -- `spell` meets its contract: the digits of the bytes passed stand from place 0.
 use mathlib.Core.Path.{◌≡◌, refl}
-use Prim.Native.Nat.{◌-◌, ◌≤◌}
 use native.Mathlib.Omega.{arith}
-use lib.ListN.{length, take}
-use Rattle.meaning.specs.Table.{place}
-use Rattle.meaning.specs.Frames.{spelled}
+use lib.ListN.{length}
 use Rattle.spelling.proofs.SpellLaws.{spell_none, spell_more, spell_all}
-use borrow.Author.Rules.{rules}
 use Rattle.spelling.proofs.spell.Goals as goal
 
 pub loop-k-init : goal.loop-k-init
