@@ -1,7 +1,6 @@
 -- `entry` is a space and a number, one after the other.
 use native.Mathlib.Omega.{arith}
 use Rattle.printing.proofs.Writing.{wrote_as, wrote_then, spaced_one}
-use borrow.Author.Rules.{rules}
 use Rattle.printing.proofs.entry.Goals as goal
 
 pub returns : goal.returns

@@ -1,6 +1,5 @@
 -- `number` is `digits` with the definition's 20.
 use Rattle.meaning.specs.Journals.{decimal}
-use borrow.Author.Rules.{rules}
 use Rattle.printing.proofs.number.Goals as goal
 
 pub returns : goal.returns

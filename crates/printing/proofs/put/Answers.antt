@@ -1,5 +1,4 @@
 -- `put` writes one byte: the law `wrote_one`.
-use borrow.Author.Rules.{rules}
 use Rattle.printing.proofs.Writing.{wrote_one}
 use Rattle.printing.proofs.put.Goals as goal
 
