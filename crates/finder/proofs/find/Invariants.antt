@@ -1,11 +1,8 @@
 -- `find`: whether an LF follows the place, and how far off it is, is the same from every byte passed.
-use mathlib.Core.Path.{◌≡◌, refl, ap, ◌∙◌}
-use Prim.Native.Nat.{◌+◌, ◌-◌, ◌≤◌, ◌<◌}
-use native.Mathlib.Omega.{arith}
+use mathlib.Core.Path.{◌≡◌}
+use Prim.Native.Nat.{◌+◌, ◌-◌, ◌≤◌}
 use lib.ListN.{length, drop}
 use Rattle.meaning.specs.Journals.{until_lf, has_lf}
-use Rattle.meaning.proofs.JournalLaws.{has_here, has_past, has-none, until_here, until_past}
-use Rattle.finder.proofs.Finding.{found_over, found_unended, found_line}
 use Rattle.finder.proofs.find.Given as goal
 
 abbrev pub invariant-loop-i : goal.invariant-loop-i
