@@ -45,16 +45,16 @@ fn apply(t: &mut [u32], frame: &[u8]) -> Reply {
 }
 
 // A frame applied, and what it replied.
-fn said(t: &mut [u32], case: &[u8]) {
+fn said(rt: &HostRuntime, t: &mut [u32], case: &[u8]) {
     let end = until(case, 0, b' ');
     let before = say::digest(t);
     let r = apply(t, &case[0..end]);
     let from = after(case, end);
-    say::reply(t, &case[from..case.len()], r, before);
+    say::reply(rt, t, &case[from..case.len()], r, before);
 }
 
 // One case that stands on a line.
-fn line(t: &mut [u32], case: &[u8]) {
+fn line(rt: &HostRuntime, t: &mut [u32], case: &[u8]) {
     if case.len() == 0 {
         return;
     }
@@ -63,41 +63,41 @@ fn line(t: &mut [u32], case: &[u8]) {
         b'=' => {
             apply(t, rest);
         }
-        b'+' => said(t, rest),
-        b'?' => say::frame(rest),
+        b'+' => said(rt, t, rest),
+        b'?' => say::frame(rt, rest),
         _ => {}
     }
 }
 
 // A journal's name on this line, and the journal from the next one on; the place of its end.
-fn journal(s: &[u8], from: usize) -> usize
+fn journal(rt: &HostRuntime, s: &[u8], from: usize) -> usize
     requires { from ≤ length s.now }
     ensures { (from ≤ result) × (result ≤ length s.now) }
 {
     let end = until(s, from, b'\n');
     let start = after(s, end);
     let to = until(s, start, b'.');
-    walk::journal(&s[from..end], &s[start..to]);
+    walk::journal(rt, &s[from..end], &s[start..to]);
     to
 }
 
 // The case at a place, and the place where it ends.
-fn case(t: &mut [u32], s: &[u8], at: usize) -> usize
+fn case(rt: &HostRuntime, t: &mut [u32], s: &[u8], at: usize) -> usize
     requires { at < length s.now }
     ensures { (at ≤ result) × (result ≤ length s.now) }
 {
     if s[at] == b'>' {
-        return journal(s, at + 1);
+        return journal(rt, s, at + 1);
     }
     let end = until(s, at, b'\n');
-    line(t, &s[at..end]);
+    line(rt, t, &s[at..end]);
     end
 }
 
 // Every case, in order.
-pub(crate) fn all(t: &mut [u32], s: &[u8]) {
+pub(crate) fn all(rt: &HostRuntime, t: &mut [u32], s: &[u8]) {
     let mut at: usize = 0;
     while at < s.len() {
-        at = case(t, s, at) + 1;
+        at = case(rt, t, s, at) + 1;
     }
 }

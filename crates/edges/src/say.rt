@@ -3,17 +3,28 @@ ghost use Rattle.std.specs.Prelude.{◌≤◌, ◌<◌};
 ghost use Rattle.meaning.specs.Table.{nodes_most};
 
 use meaning::{Line, Reply};
+use std::io::Write;
+
+// Bytes as they are. Where a write fails the program says nothing of it: what it printed is compared.
+pub(crate) fn text(rt: &HostRuntime, bytes: &[u8]) {
+    let _ = rt.stdout().write_all(bytes);
+}
+
+// A number in decimal.
+fn decimal(rt: &HostRuntime, n: u64) {
+    let _ = print!(rt; "{n}");
+}
 
 // A number after its label.
-pub(crate) fn field(label: &[u8], n: u32) {
-    io::write_all(1, label);
-    io::print_decimal(1, n as u64);
+pub(crate) fn field(rt: &HostRuntime, label: &[u8], n: u32) {
+    text(rt, label);
+    decimal(rt, n as u64);
 }
 
 // A place after its label.
-pub(crate) fn place(label: &[u8], n: usize) {
-    io::write_all(1, label);
-    io::print_decimal(1, n as u64);
+pub(crate) fn place(rt: &HostRuntime, label: &[u8], n: usize) {
+    text(rt, label);
+    decimal(rt, n as u64);
 }
 
 // A word of the table, 0 beyond its end.
@@ -55,79 +66,79 @@ fn held_by(t: &[u32], p: usize) -> u32
 }
 
 // Each node's held number.
-fn held(t: &[u32]) {
+fn held(rt: &HostRuntime, t: &[u32]) {
     let n = nodes(t);
     let mut p: usize = 0;
     while p < n {
-        field(b" ", held_by(t, p));
+        field(rt, b" ", held_by(t, p));
         p += 1;
     }
 }
 
 // One line: the case, the refusal number (0 for none), the two counts, each node's held number, and the number of all the words.
-fn line(t: &[u32], name: &[u8], number: u32, first: u32, second: u32) {
-    io::write_all(1, name);
-    field(b": refusal ", number);
-    field(b" counts ", first);
-    field(b" ", second);
-    io::write_all(1, b" held");
-    held(t);
-    io::write_all(1, b" words ");
-    io::print_decimal(1, digest(t));
-    io::write_all(1, b"\n");
+fn line(rt: &HostRuntime, t: &[u32], name: &[u8], number: u32, first: u32, second: u32) {
+    text(rt, name);
+    field(rt, b": refusal ", number);
+    field(rt, b" counts ", first);
+    field(rt, b" ", second);
+    text(rt, b" held");
+    held(rt, t);
+    text(rt, b" words ");
+    decimal(rt, digest(t));
+    text(rt, b"\n");
 }
 
 // Says so if a refused step changed a word.
-fn unchanged(before: u64, after: u64) {
+fn unchanged(rt: &HostRuntime, before: u64, after: u64) {
     if before != after {
-        io::write_all(1, b"a refused step changed the table\n");
+        text(rt, b"a refused step changed the table\n");
     }
 }
 
 // The reply, with the table afterwards.
-pub(crate) fn reply(t: &[u32], name: &[u8], r: Reply, before: u64) {
+pub(crate) fn reply(rt: &HostRuntime, t: &[u32], name: &[u8], r: Reply, before: u64) {
     match r {
-        Reply::Written => line(t, name, 0, 0, 0),
-        Reply::Carried { a, b } => line(t, name, 0, a, b),
-        Reply::Purged { removed, lags } => line(t, name, 0, removed, lags as u32),
-        Reply::Delivered { records } => line(t, name, 0, records, 0),
+        Reply::Written => line(rt, t, name, 0, 0, 0),
+        Reply::Carried { a, b } => line(rt, t, name, 0, a, b),
+        Reply::Purged { removed, lags } => line(rt, t, name, 0, removed, lags as u32),
+        Reply::Delivered { records } => line(rt, t, name, 0, records, 0),
         Reply::Refused { number } => {
-            line(t, name, number, 0, 0);
-            unchanged(before, digest(t));
+            line(rt, t, name, number, 0, 0);
+            unchanged(rt, before, digest(t));
         }
     }
 }
 
 // Making a table of n nodes of these words.
-pub(crate) fn fresh(t: &mut [u32], name: &[u8], n: u32) {
+pub(crate) fn fresh(rt: &HostRuntime, t: &mut [u32], name: &[u8], n: u32) {
     let before = digest(t);
     let number = table::fresh(t, n);
-    line(t, name, number, 0, 0);
+    line(rt, t, name, number, 0, 0);
     if number != 0 {
-        unchanged(before, digest(t));
+        unchanged(rt, before, digest(t));
     }
 }
 
 // A refusal, and its place in the line.
-pub(crate) fn refusal(number: u32, at: usize) {
-    field(b"refusal ", number);
-    place(b" at ", at);
+pub(crate) fn refusal(rt: &HostRuntime, number: u32, at: usize) {
+    field(rt, b"refusal ", number);
+    place(rt, b" at ", at);
 }
 
 // What a single line says: the refusal and its place, or none.
-fn said(answer: Line) {
+fn said(rt: &HostRuntime, answer: Line) {
     match answer {
-        Line::Begin { .. } => field(b"refusal ", 0),
-        Line::Act { .. } => field(b"refusal ", 0),
-        Line::Refused { number, place } => refusal(number, place),
+        Line::Begin { .. } => field(rt, b"refusal ", 0),
+        Line::Act { .. } => field(rt, b"refusal ", 0),
+        Line::Refused { number, place } => refusal(rt, number, place),
     }
 }
 
 // A single line, given to the frame reader.
-pub(crate) fn frame(name: &[u8]) {
-    io::write_all(1, b"line ");
-    io::write_all(1, name);
-    io::write_all(1, b": ");
-    said(reading::read_line(name, 1));
-    io::write_all(1, b"\n");
+pub(crate) fn frame(rt: &HostRuntime, name: &[u8]) {
+    text(rt, b"line ");
+    text(rt, name);
+    text(rt, b": ");
+    said(rt, reading::read_line(name, 1));
+    text(rt, b"\n");
 }

@@ -18,77 +18,77 @@ fn is_frame(out: &[u8], part: &[u8]) -> bool {
 }
 
 // How a frame that was written compares with the line that was read.
-fn compared(out: &[u8], framed: Framed, part: &[u8]) {
+fn compared(rt: &HostRuntime, out: &[u8], framed: Framed, part: &[u8]) {
     match framed {
         Framed::Length { bytes } => {
-            say::place(b", written back in ", bytes);
+            say::place(rt, b", written back in ", bytes);
             if is_frame(out, part) {
-                io::write_all(1, b" bytes, alike");
+                say::text(rt, b" bytes, alike");
             } else {
-                io::write_all(1, b" bytes, another line");
+                say::text(rt, b" bytes, another line");
             }
         }
-        Framed::Refused { number } => say::field(b", not written back: ", number),
+        Framed::Refused { number } => say::field(rt, b", not written back: ", number),
     }
 }
 
 // A start's frame written back.
-fn start(n: u8, part: &[u8]) {
+fn start(rt: &HostRuntime, n: u8, part: &[u8]) {
     let mut out = [0u8; 32];
     let framed = writing::write_start(&mut out, n);
-    say::field(b" starts ", n as u32);
-    compared(&out, framed, part);
+    say::field(rt, b" starts ", n as u32);
+    compared(rt, &out, framed, part);
 }
 
 // A step's frame written back.
-fn step(step: Step, part: &[u8]) {
+fn step(rt: &HostRuntime, step: Step, part: &[u8]) {
     let mut out = [0u8; 32];
     let framed = writing::write_step(&mut out, step);
-    compared(&out, framed, part);
+    compared(rt, &out, framed, part);
 }
 
 // A refusal, and the line that is refused: the reader's part is empty then, the finder's is the line, or empty where no LF ends one.
-fn refused(s: &[u8], at: usize, number: u32, place: usize) {
-    say::refusal(number, place);
-    io::write_all(1, b" of '");
-    io::write_all(1, finder::line(s, at));
-    io::write_all(1, b"'");
+fn refused(rt: &HostRuntime, s: &[u8], at: usize, number: u32, place: usize) {
+    say::refusal(rt, number, place);
+    say::text(rt, b" of '");
+    say::text(rt, finder::line(s, at));
+    say::text(rt, b"'");
 }
 
 // What the reader found.
-fn answer(s: &[u8], at: usize, found: Next, part: &[u8]) {
+fn answer(rt: &HostRuntime, s: &[u8], at: usize, found: Next, part: &[u8]) {
     match found {
-        Next::Begin { n, next: _ } => start(n, part),
-        Next::Act { step: x, next: _ } => step(x, part),
-        Next::Refused { number, place } => refused(s, at, number, place),
+        Next::Begin { n, next: _ } => start(rt, n, part),
+        Next::Act { step: x, next: _ } => step(rt, x, part),
+        Next::Refused { number, place } => refused(rt, s, at, number, place),
         Next::End => {
-            io::write_all(1, b"the end");
+            say::text(rt, b"the end");
         }
     }
 }
 
 // The line at a place, and the position after it.
-fn one(s: &[u8], at: usize, line: usize) -> usize {
+fn one(rt: &HostRuntime, s: &[u8], at: usize, line: usize) -> usize {
     let part = reader::part_from(s, at, line);
     let to = reader::place_from(s, at, line);
-    say::place(b"line ", line);
-    say::place(b" at ", at);
-    say::place(b" to ", to);
-    io::write_all(1, b": ");
-    io::write_all(1, part);
-    answer(s, at, reader::next_from(s, at, line), part);
-    io::write_all(1, b"\n");
+    say::place(rt, b"line ", line);
+    say::place(rt, b" at ", at);
+    say::place(rt, b" to ", to);
+    say::text(rt, b": ");
+    say::text(rt, part);
+    answer(rt, s, at, reader::next_from(s, at, line), part);
+    say::text(rt, b"\n");
     to
 }
 
 // From the journal's start to its end or the first refused line, ten lines at most.
-pub(crate) fn journal(name: &[u8], s: &[u8]) {
-    io::write_all(1, name);
-    io::write_all(1, b"\n");
+pub(crate) fn journal(rt: &HostRuntime, name: &[u8], s: &[u8]) {
+    say::text(rt, name);
+    say::text(rt, b"\n");
     let mut at: usize = 0;
     let mut line: usize = 1;
     while line < 11 {
-        let to = one(s, at, line);
+        let to = one(rt, s, at, line);
         if to == at {
             return;
         }
