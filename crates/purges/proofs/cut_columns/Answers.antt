@@ -13,8 +13,7 @@ use Rattle.columns.specs.Smallest.{Lowest}
 use Rattle.purges.specs.Dropped.{Drops, Dropped, Cuts, CutDone}
 use Rattle.purges.proofs.PurgeLaws.{cut_here, cut_room, bars_long, by_row, row_barred, dropped_as}
 use borrow.Author.Rules.{rules}
-use Rattle.purges.proofs.cut_columns.Statement.{statement}
-use Rattle.purges.proofs.cut_columns.Tie as tie
+use Rattle.purges.proofs.cut_columns.Goals as goal
 
 module _ (t : List ℕ) (p n k : ℕ) (d : Cuts t p n k) (form : form_of t ≡ Columns) where
   -- the row w, lent again as the first n words of all that it stands in
@@ -53,60 +52,17 @@ module _ (t : List ℕ) (p n k : ℕ) (d : Cuts t p n k) (form : form_of t ≡ C
           below = o.below;
         }
 
-sub_lowest : tie.Need-overflow-sub-lowest
-sub_lowest c = search rules
+pub slice_bounds-drop_rows-end : goal.slice_bounds-drop_rows-end
+slice_bounds-drop_rows-end c =
+    fits c.args.t.now c.args.p c.args.n c.args.held c.requires.0 c.requires.1 c.lowest-at.new.row _
+    c.lowest-at.result c.lowest-at.ensures
 
-part-row_start : tie.Need-slice-bounds-row-start
-part-row_start c = search rules
+pub drop_rows-left-requires : goal.drop_rows-left-requires
+drop_rows-left-requires c =
+    ready c.args.t.now c.args.p c.args.n c.args.held c.requires.0 c.requires.1 c.lowest-at.new.row _
+    c.lowest-at.result c.lowest-at.ensures
 
-part-row_end : tie.Need-slice-bounds-row-end
-part-row_end c = search rules
-
-lowest_requires : tie.Need-lowest-requires
-lowest_requires c κs = search rules
-
-sub_drop_rows : tie.Need-overflow-sub-drop-rows
-sub_drop_rows c = search rules
-
-part-drop_rows_start : tie.Need-slice-bounds-drop-rows-start
-part-drop_rows_start c = search rules
-
-part-drop_rows_end : tie.Need-slice-bounds-drop-rows-end
-part-drop_rows_end c =
-    let at_lowest = c.before.before.before in
-    let start = at_lowest.before.before.before.before in
-    fits start.args.t.now start.args.p start.args.n start.args.held start.requires.0 start.requires.1 at_lowest.lowest.new.0 _
-    at_lowest.lowest.result at_lowest.lowest.ensures
-
-drop_rows_requires : tie.Need-drop-rows-requires
-drop_rows_requires c κs =
-    let at_lowest = c.before.before.before.before in
-    let start = at_lowest.before.before.before.before in
-    ready start.args.t.now start.args.p start.args.n start.args.held start.requires.0 start.requires.1 at_lowest.lowest.new.0 _
-    at_lowest.lowest.result at_lowest.lowest.ensures
-
-same_length : tie.Need-same-length
-same_length c = search rules
-
-returns : tie.Need-returns
+pub returns : goal.returns
 returns c =
-    let at_drop_rows = c.before.before in
-    let at_lowest = at_drop_rows.before.before.before.before.before in
-    let start = at_lowest.before.before.before.before in
-    cut start.args.t.now start.args.p start.args.n start.args.held start.requires.0 start.requires.1 at_lowest.lowest.new.0 _
-    at_lowest.lowest.result at_lowest.lowest.ensures at_drop_rows.drop-rows.ensures.0 at_drop_rows.drop-rows.ensures.1
-
-pub cut_columns_spec : {M : Type 1} → statement M
-cut_columns_spec =
-    tie.close
-    (tie.spec
-    sub_lowest
-    part-row_start
-    part-row_end
-    lowest_requires
-    sub_drop_rows
-    part-drop_rows_start
-    part-drop_rows_end
-    drop_rows_requires
-    same_length
-    returns)
+    cut c.args.t.now c.args.p c.args.n c.args.held c.requires.0 c.requires.1 c.lowest-at.new.row _
+    c.lowest-at.result c.lowest-at.ensures c.drop_rows-left.ensures.0 c.drop_rows-left.ensures.1

@@ -16,8 +16,7 @@ use Rattle.meaning.proofs.TableLaws.{form_same, log_length}
 use Rattle.logs.specs.Carry.{goes, stay, FirstLeaving}
 use Rattle.purges.specs.Dropped.{log_from, log_of, Drops, Closed, Dropped}
 use borrow.Author.Rules.{rules}
-use Rattle.purges.proofs.drop_rows.Statement.{statement}
-use Rattle.purges.proofs.drop_rows.Tie as tie
+use Rattle.purges.proofs.drop_rows.Goals as goal
 
 whole :
     (t : List ℕ) (p k : ℕ) (barred : Bool) (bars : List ℕ) (d : Drops t p k barred bars) (leaves : Record → Bool) (n at : ℕ) (u v w : List ℕ) →
@@ -82,104 +81,60 @@ module _
               put_held_same t s p h t k l (held_word t p ∙ sym ek));
         }
 
-first_of_requires : tie.Need-first-of-requires
-first_of_requires c κs = search rules
-
-same_length : tie.Need-same-length
-same_length c = search rules
-
-returns : tie.Need-returns
-returns c =
-    let at_first_of = c.before in
-    let start = at_first_of.before.before.before.before in (
-      nothing start.args.t.now start.args.p start.args.held start.args.barred start.args.bars.now start.requires
-          (goes start.args.barred start.args.bars.now start.args.limit) at_first_of.first_of.result at_first_of.first_of.ensures
+pub returns-then-first-held : goal.returns-then-first-held
+returns-then-first-held c =
+    (
+      nothing c.args.t.now c.args.p c.args.held c.args.barred c.args.bars.now c.requires
+          (goes c.args.barred c.args.bars.now c.args.limit) c.first_of-first.result c.first_of-first.ensures
           (omega arith),
       omega arith,
     )
 
-close_log_requires : tie.Need-close-log-requires
-close_log_requires c κs =
-    let at_first_of = c.before.before in
-    let start = at_first_of.before.before.before.before in
-    let w = at_first_of.first_of.ensures.within in
-    ((start.requires, omega arith), at_first_of.first_of.ensures)
+pub close_log-left-requires : goal.close_log-left-requires
+close_log-left-requires c =
+    let w = c.first_of-first.ensures.within in
+    record { drops = (c.requires, omega arith); first_leaving = c.first_of-first.ensures }
 
-clear_rows_requires : tie.Need-clear-rows-requires
-clear_rows_requires c κs =
-    let at_close_log = c.before.before.before in
-    let start = at_close_log.before.before.before.before.before.before.before in
-    let d : Drops start.args.t.now start.args.p start.args.held start.args.barred start.args.bars.now = start.requires in
+pub clear_rows-requires : goal.clear_rows-requires
+clear_rows-requires c =
+    let d : Drops c.args.t.now c.args.p c.args.held c.args.barred c.args.bars.now = c.requires in
     let high = d.is_sound.high in
     let here = d.there in (
-      long_same start.args.t.now at_close_log.close-log.new.0 at_close_log.close-log.auto.0 d.is_sound.long,
+      long_same c.args.t.now c.close_log-left.new.t c.close_log-left.auto.t d.is_sound.long,
       omega arith,
-      at_close_log.close-log.ensures.1,
+      c.close_log-left.ensures.1,
       d.room,
     )
 
-held_at_requires : tie.Need-held-at-requires
-held_at_requires c κs =
-    let at_clear_rows = c.before.before.before in
-    let at_close_log = at_clear_rows.before.before.before.before in
-    let start = at_close_log.before.before.before.before.before.before.before in
-    let d : Drops start.args.t.now start.args.p start.args.held start.args.barred start.args.bars.now = start.requires in
+pub held_at-at-requires : goal.held_at-at-requires
+held_at-at-requires c =
+    let d : Drops c.args.t.now c.args.p c.args.held c.args.barred c.args.bars.now = c.requires in
     let high = d.is_sound.high in
     let here = d.there in (
-      long_same start.args.t.now at_clear_rows.clear-rows.new.0 (at_clear_rows.clear-rows.auto.0 ∙ at_close_log.close-log.auto.0)
+      long_same c.args.t.now c.clear_rows.new.t (c.clear_rows.auto.t ∙ c.close_log-left.auto.t)
           d.is_sound.long,
       omega arith,
     )
 
-cast_put_word : tie.Need-overflow-cast-put-word
-cast_put_word c = search rules
-
-put_word_requires : tie.Need-put-word-requires
-put_word_requires c κs =
-    let at_held_at = c.before in
-    let at_clear_rows = at_held_at.before.before.before.before in
-    let at_close_log = at_clear_rows.before.before.before.before in
-    let start = at_close_log.before.before.before.before.before.before.before in
-    let d : Drops start.args.t.now start.args.p start.args.held start.args.barred start.args.bars.now = start.requires in
+pub put_word-requires : goal.put_word-requires
+put_word-requires c =
+    let d : Drops c.args.t.now c.args.p c.args.held c.args.barred c.args.bars.now = c.requires in
     let high = d.is_sound.high in
     let here = d.there in
-    let at = at_held_at.held_at.ensures in
+    let at = c.held_at-at.ensures in
     let l =
-    long_same start.args.t.now at_clear_rows.clear-rows.new.0 (at_clear_rows.clear-rows.auto.0 ∙ at_close_log.close-log.auto.0)
+    long_same c.args.t.now c.clear_rows.new.t (c.clear_rows.auto.t ∙ c.close_log-left.auto.t)
     d.is_sound.long
     in
     omega arith
 
-same_length_2 : tie.Need-same-length-2
-same_length_2 c = search rules
-
-returns_2 : tie.Need-returns-2
-returns_2 c =
-    let at_put_word = c.before.before in
-    let at_held_at = at_put_word.before.before in
-    let at_clear_rows = at_held_at.before.before.before.before in
-    let at_close_log = at_clear_rows.before.before.before.before in
-    let start = at_close_log.before.before.before.before.before.before.before in
-    let lu = at_close_log.close-log.auto.0 in (
-      whole start.args.t.now start.args.p start.args.held start.args.barred start.args.bars.now start.requires
-          (goes start.args.barred start.args.bars.now start.args.limit) at_close_log.close-log.result at_held_at.held_at.result
-          at_close_log.close-log.new.0 at_clear_rows.clear-rows.new.0 at_put_word.put_word.new.0 lu
-          (at_clear_rows.clear-rows.auto.0 ∙ lu) at_held_at.held_at.ensures at_close_log.close-log.ensures.0
-          at_clear_rows.clear-rows.ensures at_put_word.put_word.ensures,
-      at_close_log.close-log.ensures.1,
+pub returns : goal.returns
+returns c =
+    let lu = c.close_log-left.auto.t in (
+      whole c.args.t.now c.args.p c.args.held c.args.barred c.args.bars.now c.requires
+          (goes c.args.barred c.args.bars.now c.args.limit) c.close_log-left.result c.held_at-at.result
+          c.close_log-left.new.t c.clear_rows.new.t c.put_word.new.t lu
+          (c.clear_rows.auto.t ∙ lu) c.held_at-at.ensures c.close_log-left.ensures.0
+          c.clear_rows.ensures c.put_word.ensures,
+      c.close_log-left.ensures.1,
     )
-
-pub drop_rows_spec : {M : Type 1} → statement M
-drop_rows_spec =
-    tie.close
-    (tie.spec
-    first_of_requires
-    same_length
-    returns
-    close_log_requires
-    clear_rows_requires
-    held_at_requires
-    cast_put_word
-    put_word_requires
-    same_length_2
-    returns_2)

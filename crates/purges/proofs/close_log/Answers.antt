@@ -16,8 +16,7 @@ use Rattle.logs.specs.Carry.{goes, stay, AllBarred, FirstLeaving, Closes}
 use Rattle.logs.proofs.MoveLaws.{records_from, stay_from}
 use Rattle.purges.specs.Dropped.{log_from, log_of, Drops}
 use borrow.Author.Rules.{rules}
-use Rattle.purges.proofs.close_log.Statement.{statement}
-use Rattle.purges.proofs.close_log.Tie as tie
+use Rattle.purges.proofs.close_log.Goals as goal
 
 -- the rows lent, of a log at `at`: from row f to row k
 abbrev lent : List ℕ → ℕ → ℕ → ℕ → List ℕ
@@ -128,98 +127,38 @@ module _
         ap (λ (x : List ℕ). place (log_from p t) x t) (sym (words_append (records f (log_of p t)) rs)) ∙
         ap (λ (x : List Record). place (log_from p t) (words x) t) (sym split)
 
-log_at_requires : tie.Need-log-at-requires
-log_at_requires c κs = search rules
+pub close_up-requires : goal.close_up-requires
+close_up-requires c =
+    ready c.args.t.now c.args.p c.args.held c.args.barred c.args.bars.now c.requires.drops.0 c.args.limit
+    c.log_at-at.result c.args.first c.log_at-at.ensures c.requires.drops.1 c.requires.first_leaving
 
-mul_from : tie.Need-overflow-mul-from
-mul_from c = search rules
-
-add_from : tie.Need-overflow-add-from
-add_from c = search rules
-
-mul_end : tie.Need-overflow-mul-end
-mul_end c = search rules
-
-add_end : tie.Need-overflow-add-end
-add_end c = search rules
-
-mul_close_up : tie.Need-overflow-mul-close-up
-mul_close_up c = search rules
-
-sub_close_up : tie.Need-overflow-sub-close-up
-sub_close_up c = search rules
-
-part_close_up_start : tie.Need-slice-bounds-close-up-start
-part_close_up_start c = search rules
-
-part_close_up_end : tie.Need-slice-bounds-close-up-end
-part_close_up_end c = search rules
-
-sub_close_up_2 : tie.Need-overflow-sub-close-up-2
-sub_close_up_2 c = search rules
-
-close_up_requires : tie.Need-close-up-requires
-close_up_requires c κs =
-    let at_log_at = c.before in
-    let start = at_log_at.before.before.before.before in
-    ready start.args.t.now start.args.p start.args.held start.args.barred start.args.bars.now start.requires.0.0 start.args.limit
-    at_log_at.log-at.result start.args.first at_log_at.log-at.ensures start.requires.0.1 start.requires.1
-
-add_result : tie.Need-overflow-add-result
-add_result c =
-    let at_close_up = c.before.before in
-    let at_log_at = at_close_up.before.before in
-    let start = at_log_at.before.before.before.before in
+pub overflow_add-result : goal.overflow_add-result
+overflow_add-result c =
     let m =
-    many start.args.t.now start.args.p start.args.held start.args.barred start.args.bars.now start.requires.0.0 start.args.limit
-    at_log_at.log-at.result start.args.first at_log_at.log-at.ensures start.requires.0.1 start.requires.1 at_close_up.close_up.result
-    at_close_up.close_up.ensures.many
+    many c.args.t.now c.args.p c.args.held c.args.barred c.args.bars.now c.requires.drops.0 c.args.limit
+    c.log_at-at.result c.args.first c.log_at-at.ensures c.requires.drops.1 c.requires.first_leaving c.close_up.result
+    c.close_up.ensures.many
     in
     omega (arith, m.1)
 
-same_length : tie.Need-same-length
-same_length c = search rules
-
-returns : tie.Need-returns
+pub returns : goal.returns
 returns c =
-    let at_close_up = c.before.before in
-    let at_log_at = at_close_up.before.before in
-    let start = at_log_at.before.before.before.before in
-    let t = start.args.t.now in
-    let p = start.args.p in
-    let at = at_log_at.log-at.result in
-    let f = start.args.first in
-    let k = start.args.held in
-    let bars = start.args.bars.now in
-    let limit = start.args.limit in
+    let t = c.args.t.now in
+    let p = c.args.p in
+    let at = c.log_at-at.result in
+    let f = c.args.first in
+    let k = c.args.held in
+    let bars = c.args.bars.now in
+    let limit = c.args.limit in
     let m =
-    many t p k start.args.barred bars start.requires.0.0 limit at f at_log_at.log-at.ensures start.requires.0.1 start.requires.1
-    at_close_up.close_up.result at_close_up.close_up.ensures.many
+    many t p k c.args.barred bars c.requires.drops.0 limit at f c.log_at-at.ensures c.requires.drops.1 c.requires.first_leaving
+    c.close_up.result c.close_up.ensures.many
     in (
       record {
         many = m.0;
         leaves =
-            closed t p k start.args.barred bars start.requires.0.0 limit at f at_log_at.log-at.ensures start.requires.0.1 start.requires.1
-            at_close_up.close_up.new.0 at_close_up.close_up.ensures.leaves;
+            closed t p k c.args.barred bars c.requires.drops.0 limit at f c.log_at-at.ensures c.requires.drops.1 c.requires.first_leaving
+            c.close_up.new.tail c.close_up.ensures.leaves;
       },
       m.1,
     )
-
-pub close_log_spec : {M : Type 1} → statement M
-close_log_spec =
-    tie.close
-    (tie.spec
-    log_at_requires
-    mul_from
-    add_from
-    mul_end
-    add_end
-    mul_close_up
-    sub_close_up
-    part_close_up_start
-    part_close_up_end
-    sub_close_up_2
-    close_up_requires
-    add_result
-    same_length
-    returns)
