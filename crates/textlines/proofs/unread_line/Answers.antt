@@ -2,7 +2,6 @@
 use native.Mathlib.Omega.{arith}
 use Rattle.printing.proofs.Writing.{wrote_as, wrote_then}
 use Rattle.textlines.proofs.LineLaws.{unread_is}
-use borrow.Author.Rules.{rules}
 use Rattle.textlines.proofs.unread_line.Goals as goal
 
 pub returns : goal.returns
