@@ -12,7 +12,6 @@ use Rattle.meaning.proofs.PlaceLaws.{part_lent}
 use Rattle.meaning.proofs.PutLaws.{part-part}
 use Rattle.openings.specs.Begun.{Starts}
 use Rattle.layout.proofs.FormLaws.{has_columns, has_vectors}
-use borrow.Author.Rules.{rules}
 use Rattle.openings.proofs.opening.Goals as goal
 
 -- the first n entries of a whole row that was changed in one of them

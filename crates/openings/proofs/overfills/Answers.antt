@@ -13,7 +13,6 @@ use Rattle.meaning.proofs.PlaceLaws.{length_part}
 use Rattle.meaning.proofs.RowLaws.{length-newer, length-records}
 use Rattle.openings.specs.Begun.{crowds, held_log, Shows}
 use Rattle.openings.proofs.LogLaws.{right_log}
-use borrow.Author.Rules.{rules}
 use Rattle.openings.proofs.overfills.Goals as goal
 
 off : (f x : Bool) → f ≡ false → false ≡ (f && x)

@@ -5,7 +5,6 @@ use Prim.Native.Nat.{ℕ, ◌+◌, ◌-◌}
 use lib.ListN.{take, drop, set}
 use Rattle.meaning.specs.Table.{part, nodes_most}
 use Rattle.meaning.proofs.PlaceLaws.{part_lent}
-use borrow.Author.Rules.{rules}
 use Rattle.openings.proofs.row_with.Goals as goal
 
 changed : (t w : List ℕ) (at i v : ℕ) → w ≡ take ((at + nodes_most) - at) (drop at t) → set w i v ≡ set (part at nodes_most t) i v

@@ -4,7 +4,6 @@ use mathlib.Core.Path.{◌≡◌, sym, ◌∙◌}
 use mathlib.Core.Bool.{Bool, false, not}
 use mathlib.Core.List.{List}
 use Prim.Native.Nat.{ℕ}
-use borrow.Author.Rules.{rules}
 use borrow.Author.Tests.{eqb-true, eqb-false, not-true, not-false}
 use native.Mathlib.Omega.{arith}
 use lib.ListN.{length}
@@ -26,12 +25,12 @@ count_of-n-requires c = long _ c.is_long.result c.is_long.ensures (ap not c.if-n
 pub returns-then-n-lt2 : goal.returns-then-n-lt2
 returns-then-n-lt2 c =
     let right = long _ c.is_long.result c.is_long.ensures (ap not c.if-not-is_long.false) in
-    unsound_few _ _ right c.count_of-n.ensures c.if-n-lt2.true
+    unsound_few _ _ right c.count_of-n.ensures (omega arith)
 
 pub returns-then-n-gt-NODES_MOST : goal.returns-then-n-gt-NODES_MOST
 returns-then-n-gt-NODES_MOST c =
     let right = long _ c.is_long.result c.is_long.ensures (ap not c.if-not-is_long.false) in
-    unsound_many _ _ right c.count_of-n.ensures c.if-n-lt2.false c.if-n-gt-NODES_MOST.true
+    unsound_many _ _ right c.count_of-n.ensures (omega arith) (omega arith)
 
 pub logs_sound-requires : goal.logs_sound-requires
 logs_sound-requires c =
@@ -40,4 +39,4 @@ logs_sound-requires c =
 pub returns : goal.returns
 returns c =
     let right = long _ c.is_long.result c.is_long.ensures (ap not c.if-not-is_long.false) in
-    sound_logs _ _ _ right c.count_of-n.ensures c.if-n-lt2.false c.if-n-gt-NODES_MOST.false c.logs_sound.ensures
+    sound_logs _ _ _ right c.count_of-n.ensures (omega arith) (omega arith) c.logs_sound.ensures

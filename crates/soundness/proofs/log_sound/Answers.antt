@@ -1,5 +1,4 @@
 -- `soundness::log_sound`: the held part that is scanned has the records of the definition, which reads the whole log.
-use borrow.Author.Rules.{rules}
 use Prim.Native.Nat.{◌+◌, ◌-◌, ◌*◌}
 use native.Mathlib.Omega.{arith}
 use Rattle.meaning.proofs.SoundLaws.{log_full, log_scanned}

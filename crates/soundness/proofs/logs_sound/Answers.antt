@@ -1,12 +1,8 @@
 -- `soundness::logs_sound`. The invariant: every log passed is sound.
-use mathlib.Core.Path.{◌≡◌, sym, ap, ◌∙◌}
-use mathlib.Core.Bool.{true, not}
-use Prim.Native.Nat.{◌≤◌, ◌-◌}
+use mathlib.Core.Path.{sym, ap, ◌∙◌}
+use mathlib.Core.Bool.{not}
 use native.Mathlib.Omega.{arith}
-use borrow.Author.Rules.{rules}
 use borrow.Author.Tests.{not-true, not-false}
-use Rattle.meaning.specs.Rows.{every}
-use Rattle.meaning.specs.Table.{log_sound}
 use Rattle.meaning.proofs.SoundLaws.{every-none, every_last, every_whole, every_not}
 use Rattle.soundness.proofs.logs_sound.Goals as goal
 

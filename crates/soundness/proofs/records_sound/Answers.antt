@@ -1,14 +1,11 @@
 -- `soundness::records_sound`. The invariant: no origin is counted and the bits seen make a byte just if each of the k records passed is sound.
 use mathlib.Core.Path.{◌≡◌, ◌∙◌}
-use mathlib.Core.Bool.{Bool, true, false, cond, ◌&&◌}
-use Prim.Native.Nat.{ℕ, ◌≤◌, ◌*◌, ◌-◌}
+use mathlib.Core.Bool.{Bool, true, false, cond}
+use Prim.Native.Nat.{ℕ, ◌≤◌, ◌*◌}
 use native.Mathlib.Omega.{arith}
-use borrow.Author.Rules.{rules}
 use borrow.Author.Tests.{eq-eqb, ne_eqb}
 use lib.ListN.{get_or}
-use lib.Dec.{leb, ltb, eqb}
-use Rattle.meaning.specs.Rows.{every, record_at}
-use Rattle.meaning.specs.Table.{record_sound}
+use lib.Dec.{ltb}
 use Rattle.meaning.proofs.SoundLaws.{scan_starts, scan_more, scan_ends}
 use Rattle.soundness.proofs.records_sound.Goals as goal
 

@@ -1,15 +1,10 @@
 -- `soundness::records_sound`. The invariant: no origin is counted and the bits seen make a byte just if each of the k records passed is sound.
-use mathlib.Core.Path.{◌≡◌, ◌∙◌}
-use mathlib.Core.Bool.{Bool, true, false, cond, ◌&&◌}
-use Prim.Native.Nat.{ℕ, ◌≤◌, ◌*◌, ◌-◌}
-use native.Mathlib.Omega.{arith}
-use borrow.Author.Rules.{rules}
-use borrow.Author.Tests.{eq-eqb, ne_eqb}
-use lib.ListN.{get_or}
-use lib.Dec.{leb, ltb, eqb}
+use mathlib.Core.Path.{◌≡◌}
+use mathlib.Core.Bool.{◌&&◌}
+use Prim.Native.Nat.{◌≤◌, ◌-◌}
+use lib.Dec.{leb, eqb}
 use Rattle.meaning.specs.Rows.{every, record_at}
 use Rattle.meaning.specs.Table.{record_sound}
-use Rattle.meaning.proofs.SoundLaws.{scan_starts, scan_more, scan_ends}
 use Rattle.soundness.proofs.records_sound.Given as goal
 
 abbrev pub invariant-loop-k : goal.invariant-loop-k
