@@ -8,9 +8,7 @@ use Rattle.meaning.specs.declared.Record.{Record}
 use Rattle.meaning.specs.Rows.{due, in_order, records, words}
 use Rattle.meaning.specs.Table.{form_of, count, held, log_at, node, place, Sound}
 use Rattle.deliveries.proofs.LentLaws.{log_fits, due_is, due_few}
-use borrow.Author.Rules.{rules}
-use Rattle.deliveries.proofs.fill.Statement.{statement}
-use Rattle.deliveries.proofs.fill.Tie as tie
+use Rattle.deliveries.proofs.fill.Goals as goal
 
 module _ (t : List ℕ) (s : Sound t) (p : ℕ) (h : p < count t) (at k : ℕ) (ea : at ≡ log_at (form_of t) p) (ek : k ≡ held t p) (mark limit : ℕ)
     (list : List ℕ) where
@@ -31,55 +29,18 @@ module _ (t : List ℕ) (s : Sound t) (p : ℕ) (h : p < count t) (at k : ℕ) (
       let f = due_few t s p h at k ea ek mark limit in
       ((l, omega arith), eu ∙ ap (λ (x : List Record). place 0 (words (in_order x)) list) e)
 
-log_at_requires : tie.Need-log-at-requires
-log_at_requires c κs = search rules
+pub give-requires : goal.give-requires
+give-requires c =
+    let pre = c.requires.sound in
+    ready c.args.t.now pre.0 c.args.p pre.1 c.log_at-at.result c.args.held c.log_at-at.ensures pre.2
+    c.args.mark c.args.limit c.args.list.now c.requires.p_in_bounds
 
-add_end : tie.Need-overflow-add-end
-add_end c = search rules
-
-mul_give : tie.Need-overflow-mul-give
-mul_give c = search rules
-
-sub_give : tie.Need-overflow-sub-give
-sub_give c = search rules
-
-part_give_start : tie.Need-slice-bounds-give-start
-part_give_start c = search rules
-
-part_give_end : tie.Need-slice-bounds-give-end
-part_give_end c = search rules
-
-give_requires : tie.Need-give-requires
-give_requires c κs =
-    let at_log_at = c.before.before in
-    let start = at_log_at.before.before.before in
-    let pre = start.requires.0 in
-    ready start.args.t.now pre.0 start.args.p pre.1 at_log_at.log-at.result start.args.held at_log_at.log-at.ensures pre.2
-    start.args.mark start.args.limit start.args.list.now start.requires.1
-
-same_length : tie.Need-same-length
-same_length c = search rules
-
-returns : tie.Need-returns
+pub returns : goal.returns
 returns c =
-    let at_give = c.before.before in
-    let at_log_at = at_give.before.before.before in
-    let start = at_log_at.before.before.before in
-    let pre = start.requires.0 in
-    done start.args.t.now pre.0 start.args.p pre.1 at_log_at.log-at.result start.args.held at_log_at.log-at.ensures pre.2
-    start.args.mark start.args.limit start.args.list.now at_give.give.result at_give.give.new.0 at_give.give.ensures.0
-    at_give.give.ensures.1
-
-pub fill_spec : {M : Type 1} → statement M
-fill_spec =
-    tie.close
-    (tie.spec
-    log_at_requires
-    add_end
-    mul_give
-    sub_give
-    part_give_start
-    part_give_end
-    give_requires
-    same_length
-    returns)
+    let pre = c.requires.sound in
+    let d =
+    done c.args.t.now pre.0 c.args.p pre.1 c.log_at-at.result c.args.held c.log_at-at.ensures pre.2
+    c.args.mark c.args.limit c.args.list.now c.give.result c.give.new.list c.give.ensures.value
+    c.give.ensures.list_after
+    in
+    record { value = d.0; list_after = d.1 }
