@@ -1,6 +1,6 @@
 -- `sides::take` meets its contract: the newer records behind the last and the held number, or nothing.
 use mathlib.Core.Path.{◌≡◌, ap, ap₂, sym, ◌∙◌}
-use mathlib.Core.Bool.{Bool, true, false}
+use mathlib.Core.Bool.{Bool, true, false, not}
 use mathlib.Core.List.{List, [], ◌∷◌}
 use Prim.Native.Nat.{ℕ, ◌+◌, ◌*◌, ◌≤◌, ◌<◌}
 use native.Mathlib.Omega.{arith}
@@ -15,8 +15,7 @@ use Rattle.openings.specs.Begun.{crowds, held_log}
 use Rattle.openings.proofs.LogLaws.{right_log}
 use Rattle.sides.specs.Ended.{Takes, Took}
 use borrow.Author.Rules.{rules}
-use Rattle.sides.proofs.take.Statement.{statement}
-use Rattle.sides.proofs.take.Tie as tie
+use Rattle.sides.proofs.take.Goals as goal
 
 module _ {t : List ℕ} {f : Bool} {p q : ℕ} {known : List ℕ} {had shown : ℕ} (s : Takes t f p q known had shown) where
   nodes : (p < nodes_most) × (q < nodes_most) × (length t ≡ form_words (form_of t))
@@ -97,105 +96,44 @@ module _ {t : List ℕ} {f : Bool} {p q : ℕ} {known : List ℕ} {had shown : �
               ap (λ (i : ℕ). place (held_at (form_of t) p) (i ∷ []) (place (log_at (form_of t) p + 4 * held t p) (words new) t)) number;
         })
 
-returns : tie.Need-returns
+pub returns-then-not-finishes : goal.returns-then-not-finishes
+returns-then-not-finishes c =
+    none c.requires (not-true c.args.finishes (ap not c.if-not-finishes.true))
+
+pub overflow_mul-to : goal.overflow_mul-to
+overflow_mul-to c =
+    let few = (most c.requires).0 in
+    omega arith
+
+pub overflow_add-to : goal.overflow_add-to
+overflow_add-to c =
+    let few = (most c.requires).0 in
+    let ends = inside c.requires in
+    let at = c.log_at.ensures in
+    omega arith
+
+pub carry-taken-requires : goal.carry-taken-requires
+carry-taken-requires c =
+    ready c.requires (not-false c.args.finishes (ap not c.if-not-finishes.false)) c.log_at-from.result c.log_at.result
+    c.log_at-from.ensures c.log_at.ensures
+
+pub overflow_add-had : goal.overflow_add-had
+overflow_add-had c =
+    let fits = bound c.requires (not-false c.args.finishes (ap not c.if-not-finishes.false)) c.carry-taken.ensures c.log_at-from.ensures in
+    omega arith
+
+pub overflow_cast-had : goal.overflow_cast-had
+overflow_cast-had c =
+    let fits = bound c.requires (not-false c.args.finishes (ap not c.if-not-finishes.false)) c.carry-taken.ensures c.log_at-from.ensures in
+    omega arith
+
+pub overflow_add-result : goal.overflow_add-result
+overflow_add-result c =
+    let fits = bound c.requires (not-false c.args.finishes (ap not c.if-not-finishes.false)) c.carry-taken.ensures c.log_at-from.ensures in
+    omega arith
+
+pub returns : goal.returns
 returns c =
-    let start = c.before.before.before in
-    none start.requires (not-true start.args.finishes c.if1.true)
-
-held_at_requires : tie.Need-held-at-requires
-held_at_requires c κs = search rules
-
-log_at_requires : tie.Need-log-at-requires
-log_at_requires c κs = search rules
-
-log_at_requires_2 : tie.Need-log-at-requires-2
-log_at_requires_2 c κs = search rules
-
-mul_to : tie.Need-overflow-mul-to
-mul_to c =
-    let at_if1 = c.before.before.before.before.before.before in
-    let start = at_if1.before.before.before in
-    let few = (most start.requires).0 in
-    omega arith
-
-add_to : tie.Need-overflow-add-to
-add_to c =
-    let at_if1 = c.before.before.before.before.before.before in
-    let start = at_if1.before.before.before in
-    let few = (most start.requires).0 in
-    let ends = inside start.requires in
-    let at = c.log-at2.ensures in
-    omega arith
-
-carry_requires : tie.Need-carry-requires
-carry_requires c κs =
-    let at_log_at2 = c.before in
-    let at_log_at = at_log_at2.before.before in
-    let at_if1 = at_log_at.before.before.before.before in
-    let start = at_if1.before.before.before in
-    ready start.requires (not-false start.args.finishes at_if1.if1.false) at_log_at.log-at.result at_log_at2.log-at2.result
-    at_log_at.log-at.ensures at_log_at2.log-at2.ensures
-
-add_put_word : tie.Need-overflow-add-put-word
-add_put_word c =
-    let at_carry = c.before.before.before in
-    let at_log_at = at_carry.before.before.before.before in
-    let at_if1 = at_log_at.before.before.before.before in
-    let start = at_if1.before.before.before in
-    let fits = bound start.requires (not-false start.args.finishes at_if1.if1.false) at_carry.carry.ensures at_log_at.log-at.ensures in
-    omega arith
-
-cast_put_word : tie.Need-overflow-cast-put-word
-cast_put_word c =
-    let at_carry = c.before.before.before in
-    let at_log_at = at_carry.before.before.before.before in
-    let at_if1 = at_log_at.before.before.before.before in
-    let start = at_if1.before.before.before in
-    let fits = bound start.requires (not-false start.args.finishes at_if1.if1.false) at_carry.carry.ensures at_log_at.log-at.ensures in
-    omega arith
-
-put_word_requires : tie.Need-put-word-requires
-put_word_requires c κs = search rules
-
-add_result : tie.Need-overflow-add-result
-add_result c =
-    let at_carry = c.before.before.before.before.before.before in
-    let at_log_at = at_carry.before.before.before.before in
-    let at_if1 = at_log_at.before.before.before.before in
-    let start = at_if1.before.before.before in
-    let fits = bound start.requires (not-false start.args.finishes at_if1.if1.false) at_carry.carry.ensures at_log_at.log-at.ensures in
-    omega arith
-
-same_length : tie.Need-same-length
-same_length c = search rules
-
-returns_2 : tie.Need-returns-2
-returns_2 c =
-    let at_put_word = c.before.before in
-    let at_carry = at_put_word.before.before.before.before in
-    let at_log_at2 = at_carry.before.before in
-    let at_log_at = at_log_at2.before.before in
-    let at_held_at = at_log_at.before.before in
-    let at_if1 = at_held_at.before.before in
-    let start = at_if1.before.before.before in
-    whole start.requires (not-false start.args.finishes at_if1.if1.false) at_carry.carry.ensures at_log_at.log-at.ensures
-    at_log_at2.log-at2.ensures at_held_at.held_at.result at_put_word.put_word.new.0 at_held_at.held_at.ensures
-    at_put_word.put_word.ensures
-
-pub take_spec : {M : Type 1} → statement M
-take_spec =
-    tie.close
-    (tie.spec
-    returns
-    held_at_requires
-    log_at_requires
-    log_at_requires_2
-    mul_to
-    add_to
-    carry_requires
-    add_put_word
-    cast_put_word
-    put_word_requires
-    add_result
-    same_length
-    returns_2)
+    whole c.requires (not-false c.args.finishes (ap not c.if-not-finishes.false)) c.carry-taken.ensures c.log_at-from.ensures
+    c.log_at.ensures c.held_at-at.result c.put_word.new.t c.held_at-at.ensures
+    c.put_word.ensures

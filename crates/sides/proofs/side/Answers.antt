@@ -12,8 +12,7 @@ use Rattle.sides.specs.Ended.{came, Merged, Merges, Sided, Sides, Takes, Took}
 use Rattle.sides.proofs.KeptLaws.{kept_form, kept_count, kept_own}
 use Rattle.sides.proofs.SideLaws.{crowd, came-carried, taken_long, taken_rows, side_put}
 use borrow.Author.Rules.{rules}
-use Rattle.sides.proofs.side.Statement.{statement}
-use Rattle.sides.proofs.side.Tie as tie
+use Rattle.sides.proofs.side.Goals as goal
 
 acks_few : (f : Form) (n : ℕ) → acks_wide f n ≤ n
 acks_few Vectors n = omega arith
@@ -74,25 +73,13 @@ module _ {t : List ℕ} {c f : Bool} {p q : ℕ} {sp kp sq kq : List ℕ} {had s
         leaves = side_put t s.is_sound p q s.here s.there f sp kp sq kq (held_log t q shown) u v (fits took) took.leaves ev;
       }
 
-take_requires : tie.Need-take-requires
-take_requires c κs = takes c.before.before.before.before.before.before.requires
+pub take-has-requires : goal.take-has-requires
+take-has-requires c = takes c.requires
 
-merge_requires : tie.Need-merge-requires
-merge_requires c κs =
-    let at_take = c.before.before.before in
-    let at_slices = at_take.before.before in
-    let start = at_slices.before.before.before.before.before in
-    merges start.requires at_take.take.new.0 at_take.take.ensures
+pub merge-requires : goal.merge-requires
+merge-requires c =
+    merges c.requires c.take-has.new.t c.take-has.ensures
 
-same_length : tie.Need-same-length
-same_length c = search rules
-
-returns : tie.Need-returns
+pub returns : goal.returns
 returns c =
-    let at_merge = c.before.before in
-    let at_take = at_merge.before.before.before.before in
-    let start = at_take.before.before.before.before.before.before.before in
-    done start.requires at_take.take.ensures at_merge.merge.new.0 at_merge.merge.ensures
-
-pub side_spec : {M : Type 1} → statement M
-side_spec = tie.close (tie.spec take_requires merge_requires same_length returns)
+    done c.requires c.take-has.ensures c.merge.new.t c.merge.ensures
