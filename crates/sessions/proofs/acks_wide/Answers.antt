@@ -7,8 +7,7 @@ use Rattle.meaning.specs.Table.{Form, form_of, acks_wide}
 use Rattle.meaning.specs.Steps.{on_columns}
 use Rattle.layout.proofs.FormLaws.{has_columns, has_vectors}
 use borrow.Author.Rules.{rules}
-use Rattle.sessions.proofs.acks_wide.Statement.{statement}
-use Rattle.sessions.proofs.acks_wide.Tie as tie
+use Rattle.sessions.proofs.acks_wide.Goals as goal
 
 none : (f : Form) (n : ℕ) (b : Bool) → b ≡ on_columns f → b ≡ true → (0 ≡ acks_wide f n) × (0 ≤ n)
 none f n b e h = (ap (λ (g : Form). acks_wide g n) (sym (has_columns f b e h)), omega arith)
@@ -16,20 +15,10 @@ none f n b e h = (ap (λ (g : Form). acks_wide g n) (sym (has_columns f b e h)),
 every : (f : Form) (n : ℕ) (b : Bool) → b ≡ on_columns f → b ≡ false → (n ≡ acks_wide f n) × (n ≤ n)
 every f n b e h = (ap (λ (g : Form). acks_wide g n) (sym (has_vectors f b e h)), omega arith)
 
-has_columns_requires : tie.Need-has-columns-requires
-has_columns_requires c κs = search rules
+pub returns-then-has_columns : goal.returns-then-has_columns
+returns-then-has_columns c =
+    none (form_of c.args.t.now) c.args.n c.has_columns.result c.has_columns.ensures c.if-has_columns.true
 
-returns : tie.Need-returns
+pub returns : goal.returns
 returns c =
-    let at_has_columns = c.before in
-    let start = at_has_columns.before.before in
-    none (form_of start.args.t.now) start.args.n at_has_columns.has_columns.result at_has_columns.has_columns.ensures c.if1.true
-
-returns_2 : tie.Need-returns-2
-returns_2 c =
-    let at_has_columns = c.before in
-    let start = at_has_columns.before.before in
-    every (form_of start.args.t.now) start.args.n at_has_columns.has_columns.result at_has_columns.has_columns.ensures c.if1.false
-
-pub acks_wide_spec : {M : Type 1} → statement M
-acks_wide_spec = tie.close (tie.spec has_columns_requires returns returns_2)
+    every (form_of c.args.t.now) c.args.n c.has_columns.result c.has_columns.ensures c.if-has_columns.false
