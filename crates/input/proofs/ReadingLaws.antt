@@ -1,5 +1,5 @@
 -- Laws of `readTo`: which answer gives which case, by the tests that the code makes of an answer's bits; and where what has come stands.
-use mathlib.Core.Path.{◌≡◌, refl}
+use mathlib.Core.Path.{◌≡◌, refl, sym, subst}
 use mathlib.Core.Bool.{Bool, true, false, cond}
 use Prim.Native.Nat.{ℕ, zero, suc, ◌+◌, ◌<◌, ◌≤◌}
 use native.Mathlib.Omega.{arith}
@@ -9,9 +9,12 @@ use lib.Signed.{lt_z, non_neg}
 use mir.Syntax.{w64}
 use mir.Val.{Fits, SFits, of_z, to_z}
 use mir.ValLaws.{to_z-of_z}
+use borrow.Author.Rules.{rules}
 use borrow.Author.Tests.{ltb-true, lt-ltb, le-ltb}
 use Rattle.input.specs.declared.Input.TheVariants.{More, End, Full, Failed}
-use Rattle.input.specs.Reading.{read_to, Within}
+use Rattle.std.specs.Prelude.{Result, Err, IsErr, if◌then◌else◌}
+use Rattle.std.specs.declared.io.Error.{Error}
+use Rattle.input.specs.Reading.{read_to, Within, Told}
 
 -- an answer as the machine reads it back from its bits
 abbrev pub back : ℤ → ℤ
@@ -90,3 +93,21 @@ module _ (lent at : ℕ) where
         again : (b : Bool) → Within lent (cond b (More at) Failed)
         again true = h
         again false = tt
+
+-- what is told of a count and of a failure
+module _ (lent at : ℕ) (old new : Result (Unit {0}) Error) where
+  pub told_count : (n : ℕ) (interrupted : Bool) → new ≡ old → Told (read_to lent at interrupted (pos n)) old new
+  unfolding read_to
+  told_count zero interrupted e = e
+  told_count (suc k) interrupted e = more (ltb (at + suc k) lent)
+    where
+      more : (b : Bool) → Told (cond b (More (at + suc k)) Full) old new
+      more true = e
+      more false = e
+
+  pub told_failure :
+      (k : ℕ) (interrupted : Bool) (failure : Error) → new ≡ (if interrupted then old else Err failure) →
+      Told (read_to lent at interrupted (negsuc k)) old new
+  unfolding read_to
+  told_failure k true failure e = e
+  told_failure k false failure e = subst (λ (x : Result (Unit {0}) Error). IsErr x) (sym e) (search rules)

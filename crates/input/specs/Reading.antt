@@ -1,6 +1,7 @@
 -- What a read's answer makes of an input, and what an answer may claim of the lent bytes. The kit's contract for a read bounds its answer and says
 -- nothing of the bytes that it stores, so nothing here says which they are.
-use Rattle.std.specs.Prelude.{Bool, cond, ℕ, zero, suc, ◌+◌, ◌<◌, ltb, ℤ, pos, negsuc}
+use Rattle.std.specs.Prelude.{Bool, cond, ℕ, zero, suc, ◌+◌, ◌<◌, ltb, ℤ, pos, negsuc, ◌≡◌, Result, IsErr}
+use Rattle.std.specs.declared.io.Error.{Error}
 use Rattle.input.specs.declared.Input.{Input}
 use Rattle.input.specs.declared.Input.TheVariants.{More, End, Full, Failed}
 
@@ -17,3 +18,10 @@ Within lent (More at) = at < lent
 Within lent (End n) = n < lent
 Within lent Full = Unit {0}
 Within lent Failed = Unit {0}
+
+-- Where the reader's error is put: a failed input leaves one there, and any other leaves what was there.
+abbrev pub Told : Input → Result (Unit {0}) Error → Result (Unit {0}) Error → Type 0
+Told (More at) old new = new ≡ old
+Told (End n) old new = new ≡ old
+Told Full old new = new ≡ old
+Told Failed old new = IsErr new

@@ -2,8 +2,8 @@
 // for a whole one.
 #![tactic(auto)]
 
-ghost use Rattle.std.specs.Prelude.{◌≡◌, ◌<◌, length, take};
-ghost use Rattle.input.specs.Reading.{read_to, Within};
+ghost use Rattle.std.specs.Prelude.{◌≡◌, ◌<◌, length, take, if◌then◌else◌};
+ghost use Rattle.input.specs.Reading.{read_to, Within, Told};
 
 use std::io;
 use std::io::{ErrorKind, Read};
@@ -40,6 +40,15 @@ fn read_to(lent: usize, at: usize, interrupted: bool, got: isize) -> Input
     Input::Full
 }
 
+// An interrupted read is tried again, and nothing is told of it.
+fn tell(e: io::Error, interrupted: bool, failure: &mut io::Result<()>)
+    ensures { failure.new ≡ (if interrupted then failure.old else Err e) }
+{
+    if !interrupted {
+        *failure = Err(e);
+    }
+}
+
 // One read into the bytes from `at` on: those before it, which came earlier, stay as they are. Where the read failed, `failure` says why.
 fn read_on<R: Read>(
     source: &mut R,
@@ -51,6 +60,7 @@ fn read_on<R: Read>(
     ensures bytes_len_unchanged { length bytes.new ≡ length bytes.old }
     ensures bytes_unchanged { take at bytes.new ≡ take at bytes.old }
     ensures within { Within (length bytes.old) result }
+    ensures told { Told result failure.old failure.new }
 {
     let lent = bytes.len();
     let mut got: isize = -1;
@@ -59,7 +69,7 @@ fn read_on<R: Read>(
         Ok(count) => got = count as isize,
         Err(e) => {
             interrupted = e.kind() == ErrorKind::Interrupted;
-            *failure = Err(e);
+            tell(e, interrupted, failure);
         }
     }
     read_to(lent, at, interrupted, got)
@@ -70,6 +80,7 @@ fn read_on<R: Read>(
 pub fn read_all<R: Read>(source: &mut R, bytes: &mut [u8], failure: &mut io::Result<()>) -> Input
     ensures bytes_len_unchanged { length bytes.new ≡ length bytes.old }
     ensures within { Within (length bytes.old) result }
+    ensures told { Told result failure.old failure.new }
 {
     if bytes.len() == 0 {
         return Input::Full;

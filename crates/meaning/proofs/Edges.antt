@@ -433,9 +433,9 @@ rows =
     row "0002fe" (line "0002fe") (12 ∷ 4 ∷ []) tt ∷
     row "an empty line" (line "") (18 ∷ 0 ∷ []) tt ∷
     row "000" (line "000") (18 ∷ 3 ∷ []) tt ∷
-    row "a lower_case digit first" (line "a002FE") (12 ∷ 0 ∷ []) tt ∷
-    row "a lower_case digit in the middle" (line "00a2FE") (12 ∷ 2 ∷ []) tt ∷
-    row "a lower_case digit last" (line "0002Fe") (12 ∷ 5 ∷ []) tt ∷
+    row "a lower-case digit first" (line "a002FE") (12 ∷ 0 ∷ []) tt ∷
+    row "a lower-case digit in the middle" (line "00a2FE") (12 ∷ 2 ∷ []) tt ∷
+    row "a lower-case digit last" (line "0002Fe") (12 ∷ 5 ∷ []) tt ∷
     row "a stray character before an odd number of digits" (line "030g0") (12 ∷ 3 ∷ []) tt ∷
     row "a slash, the character before 0" (line "0/02FE") (12 ∷ 1 ∷ []) tt ∷
     row "a colon, the character after 9" (line "0:02FE") (12 ∷ 1 ∷ []) tt ∷
