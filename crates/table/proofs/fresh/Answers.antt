@@ -11,8 +11,7 @@ use Rattle.meaning.specs.Table.{Form, Vectors, Columns, form_of, form_words, len
 use Rattle.meaning.proofs.RowLaws.{and_both}
 use Rattle.meaning.proofs.TableLaws.{fresh-count_wrong, fresh-length_wrong, fresh_right}
 use borrow.Author.Rules.{rules}
-use Rattle.table.proofs.fresh.Statement.{statement}
-use Rattle.table.proofs.fresh.Tie as tie
+use Rattle.table.proofs.fresh.Goals as goal
 
 -- the count put over zeros, and what the test of the length says where it passes
 placed : (f : Form) (n : ℕ) → place 0 (n ∷ []) (replicate (form_words f) 0) ≡ fresh f n
@@ -52,59 +51,28 @@ module _ (t : List ℕ) (n : ℕ) where
       let e = fresh_right t n c l in
       (sym e, rw e (ev ∙ ap (place 0 (n ∷ [])) (eu ∙ ap (λ (m : ℕ). replicate m 0) l) ∙ placed (form_of t) n))
 
-returns : tie.Need-returns
+pub returns-then-n-lt2 : goal.returns-then-n-lt2
 unfolding Right
-returns c = few c.before.before.args.t.now c.before.before.args.n c.if1.true
+returns-then-n-lt2 c = few c.args.t.now c.args.n c.if-n-lt2.true
 
-returns_2 : tie.Need-returns-2
+pub returns-then-n-gt16 : goal.returns-then-n-gt16
 unfolding Right
-returns_2 c =
-    let start = c.before.before.before in
-    many start.args.t.now start.args.n c.if2.true
+returns-then-n-gt16 c =
+    many c.args.t.now c.args.n c.if-n-gt16.true
 
-returns_3 : tie.Need-returns-3
+pub returns-then-not-is_long : goal.returns-then-not-is_long
 unfolding Right
-returns_3 c =
-    let at_long = c.before in
-    let start = at_long.before.before.before.before.before in
-    wrong start.args.t.now start.args.n at_long.is_long.result at_long.is_long.ensures c.if3.true
+returns-then-not-is_long c =
+    wrong c.args.t.now c.args.n c.is_long.result c.is_long.ensures (ap not c.if-not-is_long.true)
 
-is_long_requires : tie.Need-is-long-requires
-is_long_requires c κs = search rules
+pub put_word-requires : goal.put_word-requires
+put_word-requires c =
+    let l = long c.args.t.now c.is_long.result c.is_long.ensures (ap not c.if-not-is_long.false) in
+    omega (arith, l, c.clear.auto)
 
-clear_requires : tie.Need-clear-requires
-clear_requires c κs = search rules
-
-put_word_requires : tie.Need-put-word-requires
-put_word_requires c κs =
-    let at_clear = c.before.before.before in
-    let at_if3 = at_clear.before.before in
-    let at_long = at_if3.before in
-    let start = at_long.before.before.before.before.before in
-    let l = long start.args.t.now at_long.is_long.result at_long.is_long.ensures at_if3.if3.false in
-    omega (arith, l, at_clear.clear.auto)
-
-same_length : tie.Need-same-length
-same_length c = search rules
-
-same_length_2 : tie.Need-same-length-2
-same_length_2 c = search rules
-
-returns_4 : tie.Need-returns-4
+pub returns : goal.returns
 unfolding Right
-returns_4 c =
-    let at_put_word = c.before.before in
-    let at_clear = at_put_word.before.before.before.before in
-    let at_if3 = at_clear.before.before in
-    let at_long = at_if3.before in
-    let at_if2 = at_long.before.before in
-    let at_if1 = at_if2.before in
-    let start = at_if1.before.before in
-    made start.args.t.now start.args.n at_if1.if1.false at_if2.if2.false at_long.is_long.result at_long.is_long.ensures
-    at_if3.if3.false at_clear.clear.new.0
-    at_put_word.put_word.new.0 at_clear.clear.ensures at_put_word.put_word.ensures
-
-pub fresh_spec : {M : Type 1} → statement M
-fresh_spec =
-    tie.close
-    (tie.spec returns returns_2 is_long_requires same_length returns_3 clear_requires put_word_requires same_length_2 returns_4)
+returns c =
+    made c.args.t.now c.args.n c.if-n-lt2.false c.if-n-gt16.false c.is_long.result c.is_long.ensures
+    (ap not c.if-not-is_long.false) c.clear.new.row
+    c.put_word.new.t c.clear.ensures c.put_word.ensures
