@@ -92,7 +92,7 @@ fn close_one(
 }
 
 // Closes up the rows of a log from the first record that leaves on, the only rows that it is lent: those that stay move up, in their order, each to the
-// row after the one before (`Carry.storedRows`); the rows behind them are as they were. How many of them are left.
+// row after the one before (`Carry.stored_rows`); the rows behind them are as they were. How many of them are left.
 pub fn close_up(tail: &mut [u32], rows: usize, barred: bool, bars: &[u32], limit: u32) -> usize
     requires { Closes barred bars.now limit rows tail.old }
     ensures { Puts 0 (stay (goes barred bars.now limit) (records rows tail.old)) tail.old result tail.new }

@@ -1,12 +1,10 @@
 -- `columns::lower_by` meets its contract: the invariant says that the entries passed are lowered, and that `low` is above none of the column's that were
 -- passed and not below its smallest.
-use mathlib.Core.Path.{◌≡◌, refl, ◌∙◌}
+use mathlib.Core.Path.{◌≡◌}
 use Prim.Native.Nat.{◌-◌, ◌≤◌}
-use native.Mathlib.Omega.{arith}
-use lib.ListN.{length, length-set}
+use lib.ListN.{length}
 use Rattle.meaning.specs.Table.{place}
-use Rattle.columns.proofs.LowerLaws.{lowered_to, lowered_none, lowered_more, lowered_all, Low, low_none, low_more, low_all}
-use borrow.Author.Rules.{rules}
+use Rattle.columns.proofs.LowerLaws.{lowered_to, Low}
 use Rattle.columns.proofs.lower_by.Given as goal
 
 abbrev pub invariant-loop-i : goal.invariant-loop-i

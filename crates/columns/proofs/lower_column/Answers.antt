@@ -4,7 +4,6 @@ use lib.ListN.{length}
 use Rattle.meaning.specs.Rows.{least, lower}
 use Rattle.meaning.specs.Table.{column_at}
 use Rattle.columns.proofs.InPlace.{part_there}
-use borrow.Author.Rules.{rules}
 use Rattle.columns.proofs.lower_column.Goals as goal
 
 pub returns : goal.returns

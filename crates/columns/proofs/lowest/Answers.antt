@@ -14,7 +14,7 @@ use Rattle.columns.specs.Merged.{columns_of}
 use Rattle.columns.specs.Smallest.{LoweredBy, Lowers, Lowest}
 use Rattle.columns.proofs.InPlace.{part_there}
 use Rattle.columns.proofs.LayLaws.{node_columns_are, length-columns_of, get_or-columns_of}
-use Rattle.columns.proofs.LowerLaws.{ lower_self, lowest_one, lowest_more, least_of, First, first_one, first_less, first_stays, first-all, lagging_columns, }
+use Rattle.columns.proofs.LowerLaws.{lower_self, lowest_one, lowest_more, least_of, first_one, first_less, first_stays, first-all, lagging_columns}
 use borrow.Author.Rules.{rules}
 use Rattle.columns.proofs.lowest.Invariants.{Lowered}
 use Rattle.columns.proofs.lowest.Goals.{then-least-low, else-least-low}
@@ -161,7 +161,7 @@ loop-q-preserved c =
       omega arith,
       search rules,
       elim c.if-least-low.branch [
-        then-least-low w ↦
+        | then-least-low w ↦
             less row₀ t p n c.requires k inv.0 (omega arith) row low at inv.2 inv.3 next v c.if-least-low.low c.if-least-low.at e (omega arith)
             w.low-is w.at-is
         | else-least-low w ↦

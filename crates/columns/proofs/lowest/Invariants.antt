@@ -1,22 +1,12 @@
 -- `columns::lowest` meets its contract: the invariant says that the row is the smallest of the columns passed, and that `low` is the smallest entry of all
 -- of them and stands in column `at` and in none before it.
-use mathlib.Core.Path.{◌≡◌, sym, ap, ap₂, ◌∙◌}
-use mathlib.Core.Logic.{⊎_elim}
-use mathlib.Core.List.{List, [], map}
-use Prim.Native.Nat.{ℕ, ◌+◌, ◌-◌, ◌≤◌, ◌<◌}
-use native.Mathlib.Numerals.{add-one}
-use native.Mathlib.Omega.{arith}
-use lib.ListN.{length, get_or, take, drop, length-map}
-use lib.Seq.{take-length}
-use Rattle.meaning.specs.Rows.{least, least_at, lower, lowest}
-use Rattle.meaning.specs.Table.{nodes_most, column_at, form_words, part}
-use Rattle.meaning.proofs.PlaceLaws.{length_part}
+use mathlib.Core.Path.{◌≡◌}
+use mathlib.Core.List.{List, map}
+use Prim.Native.Nat.{ℕ, ◌-◌, ◌≤◌}
+use lib.ListN.{length, take}
+use Rattle.meaning.specs.Rows.{least, lowest}
 use Rattle.columns.specs.Merged.{columns_of}
-use Rattle.columns.specs.Smallest.{LoweredBy, Lowers, Lowest}
-use Rattle.columns.proofs.InPlace.{part_there}
-use Rattle.columns.proofs.LayLaws.{node_columns_are, length-columns_of, get_or-columns_of}
-use Rattle.columns.proofs.LowerLaws.{ lower_self, lowest_one, lowest_more, least_of, First, first_one, first_less, first_stays, first-all, lagging_columns, }
-use borrow.Author.Rules.{rules}
+use Rattle.columns.proofs.LowerLaws.{First}
 use Rattle.columns.proofs.lowest.Given as goal
 
 -- the first k columns

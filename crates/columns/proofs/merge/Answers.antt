@@ -10,8 +10,7 @@ use Rattle.meaning.proofs.ColumnLaws.{length-raise_each, get_or-raise_each, long
 use Rattle.meaning.proofs.RowLaws.{length-raise}
 use Rattle.rows.specs.Entry.{OneEntry}
 use Rattle.columns.specs.Merged.{columns_of, brought, put_columns, joined, Merges}
-use Rattle.columns.proofs.LayLaws.{ Wide, node_columns_are, length-brought, wide-brought, put_back, columns_put, put_other, put_one, put_over, put_set, }
-use borrow.Author.Rules.{rules}
+use Rattle.columns.proofs.LayLaws.{Wide, node_columns_are, length-brought, wide-brought, put_back, columns_put, put_other, put_one, put_over, put_set}
 use Rattle.columns.proofs.merge.Goals as goal
 
 module _ (t sp sq : List ℕ) (p q n : ℕ) (r : Merges t p q n sp sq) where

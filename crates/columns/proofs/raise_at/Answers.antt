@@ -1,10 +1,10 @@
 -- `columns::raise_at` meets its contract: the invariant says that the words passed are raised.
-use mathlib.Core.Path.{◌≡◌, refl, ◌∙◌}
-use Prim.Native.Nat.{◌+◌, ◌-◌, ◌≤◌}
+use mathlib.Core.Path.{refl, ◌∙◌}
+use Prim.Native.Nat.{◌+◌}
 use native.Mathlib.Omega.{arith}
 use lib.ListN.{length, length-set}
-use Rattle.meaning.specs.Table.{part, place}
-use Rattle.columns.proofs.RaiseLaws.{raised_to, raised-none, raised_more, raised_all}
+use Rattle.meaning.specs.Table.{part}
+use Rattle.columns.proofs.RaiseLaws.{raised-none, raised_more, raised_all}
 use borrow.Author.Rules.{rules}
 use Rattle.columns.proofs.raise_at.Goals as goal
 

@@ -1,11 +1,9 @@
 -- `columns::raise_at` meets its contract: the invariant says that the words passed are raised.
-use mathlib.Core.Path.{◌≡◌, refl, ◌∙◌}
-use Prim.Native.Nat.{◌+◌, ◌-◌, ◌≤◌}
-use native.Mathlib.Omega.{arith}
-use lib.ListN.{length, length-set}
+use mathlib.Core.Path.{◌≡◌}
+use Prim.Native.Nat.{◌-◌, ◌≤◌}
+use lib.ListN.{length}
 use Rattle.meaning.specs.Table.{part, place}
-use Rattle.columns.proofs.RaiseLaws.{raised_to, raised-none, raised_more, raised_all}
-use borrow.Author.Rules.{rules}
+use Rattle.columns.proofs.RaiseLaws.{raised_to}
 use Rattle.columns.proofs.raise_at.Given as goal
 
 abbrev pub invariant-loop-i : goal.invariant-loop-i

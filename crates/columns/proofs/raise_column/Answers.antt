@@ -9,7 +9,6 @@ use Rattle.meaning.specs.Rows.{raise}
 use Rattle.meaning.specs.Table.{column_at, part, place}
 use Rattle.columns.specs.Merged.{columns_of, brought, Raises}
 use Rattle.columns.proofs.LayLaws.{length-columns_of, get_or-columns_of}
-use borrow.Author.Rules.{rules}
 use Rattle.columns.proofs.raise_column.Goals as goal
 
 module _ (t sq : List ℕ) (p q n k : ℕ) (r : Raises t p q n sq) (h : k < n) where

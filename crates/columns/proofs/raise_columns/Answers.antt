@@ -1,7 +1,7 @@
 -- `columns::raise_columns` meets its contract: the invariant says that the columns passed are raised, the others as they were.
 use mathlib.Core.Path.{◌≡◌, refl, sym, ap, ap₂, ◌∙◌}
 use mathlib.Core.List.{List, []}
-use Prim.Native.Nat.{ℕ, ◌+◌, ◌-◌, ◌≤◌, ◌<◌}
+use Prim.Native.Nat.{ℕ, ◌+◌, ◌<◌}
 use native.Mathlib.Numerals.{add-one}
 use native.Mathlib.Omega.{arith}
 use lib.ListN.{length, get_or, set}
@@ -10,7 +10,7 @@ use Rattle.meaning.specs.Table.{column_at, part, place}
 use Rattle.meaning.proofs.RowLaws.{length-raise}
 use Rattle.columns.specs.Merged.{columns_of, brought, put_columns, Raises}
 use Rattle.columns.proofs.LayLaws.{Wide, length-columns_of, wide-columns_of, length-brought, wide-brought, put_back, put_other, put_one, put_same}
-use Rattle.columns.proofs.RaiseLaws.{ raise_first, raise_first_none, raise_first_all, length_raise_first, wide_raise_first, raise_first_left, raise_first_more, }
+use Rattle.columns.proofs.RaiseLaws.{raise_first, raise_first_none, raise_first_all, length_raise_first, wide_raise_first, raise_first_left, raise_first_more}
 use borrow.Author.Rules.{rules}
 use Rattle.columns.proofs.raise_columns.Goals as goal
 

@@ -1,17 +1,9 @@
 -- `columns::raise_columns` meets its contract: the invariant says that the columns passed are raised, the others as they were.
-use mathlib.Core.Path.{◌≡◌, refl, sym, ap, ap₂, ◌∙◌}
-use mathlib.Core.List.{List, []}
-use Prim.Native.Nat.{ℕ, ◌+◌, ◌-◌, ◌≤◌, ◌<◌}
-use native.Mathlib.Numerals.{add-one}
-use native.Mathlib.Omega.{arith}
-use lib.ListN.{length, get_or, set}
-use Rattle.meaning.specs.Rows.{raise, raise_each}
-use Rattle.meaning.specs.Table.{column_at, part, place}
-use Rattle.meaning.proofs.RowLaws.{length-raise}
-use Rattle.columns.specs.Merged.{columns_of, brought, put_columns, Raises}
-use Rattle.columns.proofs.LayLaws.{Wide, length-columns_of, wide-columns_of, length-brought, wide-brought, put_back, put_other, put_one, put_same}
-use Rattle.columns.proofs.RaiseLaws.{ raise_first, raise_first_none, raise_first_all, length_raise_first, wide_raise_first, raise_first_left, raise_first_more, }
-use borrow.Author.Rules.{rules}
+use mathlib.Core.Path.{◌≡◌}
+use Prim.Native.Nat.{◌-◌, ◌≤◌}
+use lib.ListN.{length}
+use Rattle.columns.specs.Merged.{columns_of, brought, put_columns}
+use Rattle.columns.proofs.RaiseLaws.{raise_first}
 use Rattle.columns.proofs.raise_columns.Given as goal
 
 abbrev pub invariant-loop-k : goal.invariant-loop-k

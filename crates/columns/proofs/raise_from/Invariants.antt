@@ -1,13 +1,9 @@
 -- `columns::raise_from` meets its contract: the invariant says that the words passed are raised; those they are raised by stay as they were.
-use mathlib.Core.Path.{◌≡◌, refl, sym, ap, ◌∙◌}
-use mathlib.Core.List.{List}
-use Prim.Native.Nat.{ℕ, ◌+◌, ◌-◌, ◌≤◌, ◌<◌, max}
-use native.Mathlib.Omega.{arith}
-use lib.ListN.{length, get_or, length-set}
+use mathlib.Core.Path.{◌≡◌}
+use Prim.Native.Nat.{◌-◌, ◌≤◌}
+use lib.ListN.{length}
 use Rattle.meaning.specs.Table.{part, place}
-use Rattle.meaning.proofs.PlaceLaws.{length_part, get_d_part, get_or_away}
-use Rattle.columns.proofs.RaiseLaws.{raised_to, length_raised_to, raised-none, raised_more, raised_all}
-use borrow.Author.Rules.{rules}
+use Rattle.columns.proofs.RaiseLaws.{raised_to}
 use Rattle.columns.proofs.raise_from.Given as goal
 
 abbrev pub invariant-loop-i : goal.invariant-loop-i

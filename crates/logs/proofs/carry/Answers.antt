@@ -1,7 +1,7 @@
 -- `logs::carry` meets its contract: the invariant says that the newer records of the rows passed stand at `to` and the rest is as it was.
 use mathlib.Core.Path.{◌≡◌, refl, ap, ap₂, sym, ◌∙◌}
 use mathlib.Core.List.{List, [], ◌∷◌, ◌++◌}
-use Prim.Native.Nat.{ℕ, ◌+◌, ◌*◌, ◌-◌, ◌≤◌, ◌<◌}
+use Prim.Native.Nat.{ℕ, ◌+◌, ◌*◌, ◌≤◌, ◌<◌}
 use native.Mathlib.Omega.{arith}
 use lib.ListN.{length, length-append}
 use Rattle.meaning.specs.declared.Record.{Record}
@@ -10,7 +10,7 @@ use Rattle.meaning.specs.Table.{log_most, part, place, record_sound}
 use Rattle.meaning.proofs.PlaceLaws.{place_none, place-append, part_away}
 use Rattle.meaning.proofs.RowLaws.{newer-row, newer-none, newer_grows, words-none, words_append, length-words, length-newer, length-records, all_row}
 use Rattle.meaning.proofs.TableLaws.{origin_below}
-use Rattle.logs.specs.Carry.{log_record, log_records, Carries, CarriesAll, Puts}
+use Rattle.logs.specs.Carry.{log_record, Carries, CarriesAll, Puts}
 use borrow.Author.Rules.{rules}
 use Rattle.logs.proofs.carry.Invariants.{carried_to, sent}
 use Rattle.logs.proofs.carry.Goals as goal

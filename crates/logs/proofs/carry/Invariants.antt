@@ -1,17 +1,12 @@
 -- `logs::carry` meets its contract: the invariant says that the newer records of the rows passed stand at `to` and the rest is as it was.
-use mathlib.Core.Path.{◌≡◌, refl, ap, ap₂, sym, ◌∙◌}
-use mathlib.Core.List.{List, [], ◌∷◌, ◌++◌}
-use Prim.Native.Nat.{ℕ, ◌+◌, ◌*◌, ◌-◌, ◌≤◌, ◌<◌}
-use native.Mathlib.Omega.{arith}
-use lib.ListN.{length, length-append}
+use mathlib.Core.Path.{◌≡◌}
+use mathlib.Core.List.{List}
+use Prim.Native.Nat.{ℕ, ◌-◌, ◌≤◌}
+use lib.ListN.{length}
 use Rattle.meaning.specs.declared.Record.{Record}
-use Rattle.meaning.specs.Rows.{newer, record_at, records, words}
-use Rattle.meaning.specs.Table.{log_most, part, place, record_sound}
-use Rattle.meaning.proofs.PlaceLaws.{place_none, place-append, part_away}
-use Rattle.meaning.proofs.RowLaws.{newer-row, newer-none, newer_grows, words-none, words_append, length-words, length-newer, length-records, all_row}
-use Rattle.meaning.proofs.TableLaws.{origin_below}
-use Rattle.logs.specs.Carry.{log_record, log_records, Carries, CarriesAll, Puts}
-use borrow.Author.Rules.{rules}
+use Rattle.meaning.specs.Rows.{newer, words}
+use Rattle.meaning.specs.Table.{place}
+use Rattle.logs.specs.Carry.{log_records}
 use Rattle.logs.proofs.carry.Given as goal
 
 -- the newer of the first i records, and the table with them carried

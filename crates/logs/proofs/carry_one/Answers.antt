@@ -11,7 +11,6 @@ use Rattle.meaning.specs.Table.{log_most, part, place}
 use Rattle.meaning.proofs.PlaceLaws.{place_none}
 use Rattle.meaning.proofs.RowLaws.{newer_one_is, words-none}
 use Rattle.logs.specs.Carry.{log_record, Carries, Puts}
-use borrow.Author.Rules.{rules}
 use Rattle.logs.proofs.carry_one.Goals as goal
 
 -- the record read from the part that was lent

@@ -11,7 +11,6 @@ use Rattle.meaning.proofs.PlaceLaws.{place_none}
 use Rattle.meaning.proofs.RowLaws.{words-none}
 use Rattle.logs.specs.Carry.{Puts, goes, stay}
 use Rattle.logs.proofs.MoveLaws.{stay_one}
-use borrow.Author.Rules.{rules}
 use Rattle.logs.proofs.close_one.Goals as goal
 
 module _ (leaves : Record → Bool) (row k : ℕ) (t : List ℕ) (r : Record) (e : r ≡ record_at t row) where

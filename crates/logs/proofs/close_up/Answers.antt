@@ -3,7 +3,7 @@
 use mathlib.Core.Path.{◌≡◌, refl, ap, sym, ◌∙◌}
 use mathlib.Core.Bool.{Bool, true, not}
 use mathlib.Core.List.{List, [], ◌∷◌, ◌++◌}
-use Prim.Native.Nat.{ℕ, ◌+◌, ◌*◌, ◌-◌, ◌≤◌, ◌<◌, zero, suc}
+use Prim.Native.Nat.{ℕ, ◌+◌, ◌*◌, ◌-◌, ◌≤◌, zero, suc}
 use native.Mathlib.Omega.{arith}
 use lib.ListN.{length, length-append}
 use Rattle.meaning.specs.declared.Record.{Record}
@@ -14,7 +14,6 @@ use Rattle.meaning.proofs.RowLaws.{words-none, words_append, length-words, lengt
 use Rattle.logs.specs.Carry.{Puts, goes, stay}
 use Rattle.logs.proofs.MoveLaws.{none_stays, stay-row, stay_one}
 use Rattle.logs.proofs.BarLaws.{barred_at}
-use borrow.Author.Rules.{rules}
 use Rattle.logs.proofs.close_up.Invariants.{closed}
 use Rattle.logs.proofs.close_up.Goals as goal
 

@@ -3,7 +3,6 @@ use mathlib.Core.Path.{sym, ap}
 use mathlib.Core.Bool.{Bool}
 use Rattle.meaning.specs.Rows.{covers}
 use Rattle.logs.specs.Carry.{goes}
-use borrow.Author.Rules.{rules}
 use Rattle.logs.proofs.leaves.Goals as goal
 
 pub bounds-bars-origin : goal.bounds-bars-origin

@@ -7,7 +7,6 @@ use lib.ListN.{length, take, drop, replicate, length-take, length-drop, length-r
 use Rattle.meaning.specs.Table.{form_of, form_words, place, nodes_most, log_most}
 use Rattle.meaning.proofs.PlaceLaws.{mid_place}
 use Rattle.purges.specs.Dropped.{log_from}
-use borrow.Author.Rules.{rules}
 use Rattle.purges.proofs.clear_rows.Goals as goal
 
 cleared :

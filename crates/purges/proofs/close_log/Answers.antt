@@ -15,7 +15,6 @@ use Rattle.meaning.proofs.RowLaws.{and_right, all_append, length-keep, length-wo
 use Rattle.logs.specs.Carry.{goes, stay, AllBarred, FirstLeaving, Closes}
 use Rattle.logs.proofs.MoveLaws.{records_from, stay_from}
 use Rattle.purges.specs.Dropped.{log_from, log_of, Drops}
-use borrow.Author.Rules.{rules}
 use Rattle.purges.proofs.close_log.Goals as goal
 
 -- the rows lent, of a log at `at`: from row f to row k

@@ -12,7 +12,6 @@ use Rattle.logs.specs.Carry.{goes}
 use Rattle.columns.specs.Smallest.{Lowest}
 use Rattle.purges.specs.Dropped.{Drops, Dropped, Cuts, CutDone}
 use Rattle.purges.proofs.PurgeLaws.{cut_here, cut_room, bars_long, by_row, row_barred, dropped_as}
-use borrow.Author.Rules.{rules}
 use Rattle.purges.proofs.cut_columns.Goals as goal
 
 module _ (t : List ℕ) (p n k : ℕ) (d : Cuts t p n k) (form : form_of t ≡ Columns) where

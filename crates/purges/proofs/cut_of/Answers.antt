@@ -2,7 +2,6 @@
 use mathlib.Core.List.{[]}
 use Rattle.meaning.specs.Table.{form_of}
 use Rattle.purges.proofs.PurgeLaws.{columns_form, vectors_form, cut_here, cut_drops, by_limit, dropped_as}
-use borrow.Author.Rules.{rules}
 use Rattle.purges.proofs.cut_of.Goals as goal
 
 pub cut_columns-requires : goal.cut_columns-requires
@@ -13,13 +12,12 @@ pub returns-then-has_columns : goal.returns-then-has_columns
 returns-then-has_columns c = c.cut_columns.ensures
 
 pub limit_of-low-requires : goal.limit_of-low-requires
-limit_of-low-requires c =
-    (
-      c.requires.is_sound,
-      cut_here c.args.t.now c.args.p c.args.n c.args.held c.requires,
-      c.requires.nodes,
-      vectors_form (form_of c.args.t.now) c.has_columns.result c.has_columns.ensures c.if-has_columns.false,
-    )
+limit_of-low-requires c = (
+  c.requires.is_sound,
+  cut_here c.args.t.now c.args.p c.args.n c.args.held c.requires,
+  c.requires.nodes,
+  vectors_form (form_of c.args.t.now) c.has_columns.result c.has_columns.ensures c.if-has_columns.false,
+)
 
 pub drop_rows-left-requires : goal.drop_rows-left-requires
 drop_rows-left-requires c =

@@ -15,7 +15,6 @@ use Rattle.meaning.proofs.PutLaws.{purge_put, log_words_lem, put_held_same}
 use Rattle.meaning.proofs.TableLaws.{form_same, log_length}
 use Rattle.logs.specs.Carry.{goes, stay, FirstLeaving}
 use Rattle.purges.specs.Dropped.{log_from, log_of, Drops, Closed, Dropped}
-use borrow.Author.Rules.{rules}
 use Rattle.purges.proofs.drop_rows.Goals as goal
 
 whole :
@@ -82,13 +81,12 @@ module _
         }
 
 pub returns-then-first-held : goal.returns-then-first-held
-returns-then-first-held c =
-    (
-      nothing c.args.t.now c.args.p c.args.held c.args.barred c.args.bars.now c.requires
-          (goes c.args.barred c.args.bars.now c.args.limit) c.first_of-first.result c.first_of-first.ensures
-          (omega arith),
-      omega arith,
-    )
+returns-then-first-held c = (
+  nothing c.args.t.now c.args.p c.args.held c.args.barred c.args.bars.now c.requires
+      (goes c.args.barred c.args.bars.now c.args.limit) c.first_of-first.result c.first_of-first.ensures
+      (omega arith),
+  omega arith,
+)
 
 pub close_log-left-requires : goal.close_log-left-requires
 close_log-left-requires c =

@@ -10,7 +10,6 @@ use Rattle.meaning.specs.Table.{node, part, log_most}
 use Rattle.meaning.proofs.PlaceLaws.{part_lent, length_part}
 use Rattle.logs.specs.Carry.{AllBarred}
 use Rattle.purges.specs.Dropped.{log_from, log_of, Drops}
-use borrow.Author.Rules.{rules}
 use Rattle.purges.proofs.first_of.Goals as goal
 
 module _ (t : List ℕ) (p k : ℕ) (barred : Bool) (bars : List ℕ) (d : Drops t p k barred bars) (at : ℕ) (ea : at ≡ log_from p t) where

@@ -5,7 +5,6 @@ use Rattle.meaning.specs.Rows.{least}
 use Rattle.meaning.specs.Node.{limit_of}
 use Rattle.meaning.specs.Steps.{limit}
 use Rattle.purges.proofs.PurgeLaws.{acks_lent}
-use borrow.Author.Rules.{rules}
 use Rattle.purges.proofs.limit_alone.Goals as goal
 
 pub returns : goal.returns

@@ -3,7 +3,6 @@ use mathlib.Core.Path.{ap₂, ◌∙◌}
 use Prim.Native.Nat.{min}
 use Rattle.meaning.specs.Node.{limit_of}
 use Rattle.meaning.specs.Steps.{limit}
-use borrow.Author.Rules.{rules}
 use Rattle.purges.proofs.limit_of.Goals as goal
 
 pub returns : goal.returns

@@ -13,7 +13,6 @@ use Rattle.meaning.proofs.PlaceLaws.{part_lent, inside_lent, get_d_part}
 use Rattle.meaning.proofs.RowLaws.{least_at_below}
 use Rattle.meaning.proofs.TableLaws.{node_shaped}
 use Rattle.purges.proofs.PurgeLaws.{acks_lent}
-use borrow.Author.Rules.{rules}
 use Rattle.purges.proofs.low_of.Goals as goal
 
 -- a row in which the first word is put where it stood

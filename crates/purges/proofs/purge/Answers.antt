@@ -1,6 +1,5 @@
 -- `purges::purge` meets its contract: refused by its one test, or the purged node put.
 use Rattle.purges.proofs.PurgeLaws.{absent, done}
-use borrow.Author.Rules.{rules}
 use Rattle.purges.proofs.purge.Goals as goal
 
 pub returns-then-n-p : goal.returns-then-n-p

@@ -4,7 +4,6 @@ use mathlib.Core.List.{[]}
 use native.Mathlib.Omega.{arith}
 use Rattle.meaning.specs.Table.{form_of}
 use Rattle.purges.proofs.PurgeLaws.{vectors_form, by_limit, dropped_as, absent_alone, done_alone}
-use borrow.Author.Rules.{rules}
 use Rattle.purges.proofs.purge_alone.Goals as goal
 
 pub returns-then-nodes-p : goal.returns-then-nodes-p

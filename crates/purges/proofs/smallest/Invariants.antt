@@ -1,9 +1,7 @@
 -- `purges::smallest` meets its contract: the invariant says that `low` is above none of the entries passed and not below the smallest.
 use Prim.Native.Nat.{◌-◌, ◌≤◌}
-use native.Mathlib.Omega.{arith}
 use lib.ListN.{length}
-use Rattle.columns.proofs.LowerLaws.{Low, low_none, low_more, low_all}
-use borrow.Author.Rules.{rules}
+use Rattle.columns.proofs.LowerLaws.{Low}
 use Rattle.purges.proofs.smallest.Given as goal
 
 abbrev pub invariant-loop-i : goal.invariant-loop-i
