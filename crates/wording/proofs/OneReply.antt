@@ -3,12 +3,12 @@ use mathlib.Core.List.{◌∷◌}
 use Rattle.meaning.proofs.OneReply.{OneReply}
 use Rattle.printing.proofs.Writing.{one_wrote}
 use Rattle.wording.proofs.said_one.Kinds as said_one_kinds
-use Rattle.wording.proofs.said_one.Reads as said_one_lem
-use Rattle.wording.proofs.said_row.Kinds as said-row_kinds
+use Rattle.wording.proofs.said_one.Reads as said_one
+use Rattle.wording.proofs.said_row.Kinds as said_row_kinds
 use Rattle.wording.proofs.said_row.Reads as said_row
 
-pub one_said_one : OneReply 2 said_one_kinds.ps said_one_kinds.r said_one_lem.Post (λ κs x s. x ∷ s.0.now)
+pub one_said_one : OneReply 2 said_one_kinds.ps said_one_kinds.r said_one.Post (λ κs x s. x ∷ s.0.now)
 one_said_one κs a x y s s' p q = one_wrote p q
 
-pub one_said-row : OneReply 3 said-row_kinds.ps said-row_kinds.r said_row.Post (λ κs x s. x ∷ s.0.now)
-one_said-row κs a x y s s' p q = one_wrote p q
+pub one_said_row : OneReply 3 said_row_kinds.ps said_row_kinds.r said_row.Post (λ κs x s. x ∷ s.0.now)
+one_said_row κs a x y s s' p q = one_wrote p q
