@@ -1,5 +1,5 @@
 -- `sessions::session` meets its contract: the refusals in their order, or the meeting.
-use mathlib.Core.Path.{◌≡◌, refl}
+use mathlib.Core.Path.{◌≡◌}
 use mathlib.Core.List.{List}
 use Prim.Native.Nat.{ℕ, ◌<◌, ◌≤◌}
 use native.Mathlib.Omega.{arith}
@@ -8,7 +8,6 @@ use Rattle.meaning.specs.declared.Action.TheVariants.{Session}
 use Rattle.meaning.specs.Table.{count, Sound}
 use Rattle.meaning.proofs.StepLaws.{session_is_2, session_is_3_a, session_is_3_b, session_is_4, refuse}
 use Rattle.looks.specs.Applied.{Applied}
-use borrow.Author.Rules.{rules}
 use Rattle.sessions.proofs.session.Goals as goal
 
 module _ (t : List ℕ) (s : Sound t) (a b ca cb o : ℕ) where

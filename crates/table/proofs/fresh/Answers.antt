@@ -10,7 +10,6 @@ use lib.Dec.{leb}
 use Rattle.meaning.specs.Table.{Form, Vectors, Columns, form_of, form_words, length_right, nodes_most, fresh, fresh_refusal, made_fresh, place}
 use Rattle.meaning.proofs.RowLaws.{and_both}
 use Rattle.meaning.proofs.TableLaws.{fresh-count_wrong, fresh-length_wrong, fresh_right}
-use borrow.Author.Rules.{rules}
 use Rattle.table.proofs.fresh.Goals as goal
 
 -- the count put over zeros, and what the test of the length says where it passes

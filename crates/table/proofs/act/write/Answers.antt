@@ -4,7 +4,6 @@ use mathlib.Core.Bool.{not}
 use borrow.Author.Tests.{not-true, not-false}
 use Rattle.meaning.proofs.TableLaws.{sound_facts}
 use Rattle.meaning.proofs.StepLaws.{refuse, unsound_refusal}
-use borrow.Author.Rules.{rules}
 use Rattle.table.proofs.act.write.Goals as goal
 
 pub returns-then-not-is_sound : goal.returns-then-not-is_sound
