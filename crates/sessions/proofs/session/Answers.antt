@@ -40,17 +40,17 @@ returns-then-outcome-gt3 c =
 pub returns-then-n-p : goal.returns-then-n-p
 returns-then-n-p c =
     absent_a c.args.t.now c.requires c.args.a c.args.b c.args.ca c.args.cb c.args.outcome
-    c.if-outcome-gt3.false c.nodes_of-n.result c.nodes_of-n.ensures.0 c.if-n-p.true
+    (omega arith) c.nodes_of-n.result c.nodes_of-n.ensures.0 c.if-n-p.true
 
 pub returns-then-n-q : goal.returns-then-n-q
 returns-then-n-q c =
     absent_b c.args.t.now c.requires c.args.a c.args.b c.args.ca c.args.cb c.args.outcome
-    c.if-outcome-gt3.false c.nodes_of-n.result c.nodes_of-n.ensures.0 c.if-n-q.true
+    (omega arith) c.nodes_of-n.result c.nodes_of-n.ensures.0 c.if-n-q.true
 
 pub returns-then-p-q : goal.returns-then-p-q
 returns-then-p-q c =
     twice c.args.t.now c.requires c.args.a c.args.b c.args.ca c.args.cb c.args.outcome
-    c.if-outcome-gt3.false c.nodes_of-n.result c.nodes_of-n.ensures.0 c.if-n-p.false c.if-n-q.false c.if-p-q.true
+    (omega arith) c.nodes_of-n.result c.nodes_of-n.ensures.0 c.if-n-p.false c.if-n-q.false c.if-p-q.true
 
 pub meet-requires : goal.meet-requires
 meet-requires c =

@@ -15,3 +15,6 @@ returns-then-not-is_sound c =
 pub apply_sound-requires : goal.apply_sound-requires
 apply_sound-requires c =
     sound_facts c.args.t.now (sym c.is_sound.ensures ∙ not-false c.is_sound.result (ap not c.if-not-is_sound.false))
+
+pub returns : goal.returns
+returns c = c.apply_sound.ensures

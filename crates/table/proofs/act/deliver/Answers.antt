@@ -16,3 +16,6 @@ returns-then-not-is_sound c =
 pub deliver-requires : goal.deliver-requires
 deliver-requires c =
     sound_facts _ (sym c.is_sound.ensures ∙ not-false c.is_sound.result (ap not c.if-not-is_sound.false))
+
+pub returns : goal.returns
+returns c = c.deliver.ensures

@@ -12,3 +12,6 @@ returns-then-not-is_sound c = refuse _ _ 0 (unsound_refusal _ _ (sym c.is_sound.
 pub deliver_alone-requires : goal.deliver_alone-requires
 deliver_alone-requires c =
     sound_facts _ (sym c.is_sound.ensures ∙ not-false c.is_sound.result (ap not c.if-not-is_sound.false))
+
+pub returns : goal.returns
+returns c = c.deliver_alone.ensures

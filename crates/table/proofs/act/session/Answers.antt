@@ -11,3 +11,6 @@ returns-then-not-is_sound c = refuse _ _ 0 (unsound_refusal _ _ (sym c.is_sound.
 
 pub session-requires : goal.session-requires
 session-requires c = sound_facts _ (sym c.is_sound.ensures ∙ not-false c.is_sound.result (ap not c.if-not-is_sound.false))
+
+pub returns : goal.returns
+returns c = c.session.ensures
