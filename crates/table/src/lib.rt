@@ -2,7 +2,6 @@
 // The entry points, `fresh`, `apply` and those of `act`, take any words at all; what the crates below them require, they have shown.
 #![tactic(auto)]
 
-
 ghost use Rattle.std.specs.Prelude.{◌≡◌};
 ghost use Rattle.meaning.specs.Table.{fresh_refusal, made_fresh, Sound};
 ghost use Rattle.looks.specs.Applied.{Applied};

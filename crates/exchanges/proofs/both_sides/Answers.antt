@@ -1,7 +1,5 @@
 -- `exchanges::both_sides` meets its contract: side a, then side b, which still finds what a began with.
-use mathlib.Core.Path.{◌∙◌}
 use Rattle.exchanges.proofs.Trade.{first, second, traded}
-use borrow.Author.Rules.{rules}
 use Rattle.exchanges.proofs.both_sides.Goals as goal
 
 pub side-now_a-requires : goal.side-now_a-requires

@@ -1,8 +1,7 @@
 -- `exchanges::exchange` meets its contract: 6 where one side would hold too many, or both sides, by the form of the table.
-use mathlib.Core.Path.{refl, sym, ◌∙◌}
+use mathlib.Core.Path.{sym, ◌∙◌}
 use mathlib.Core.Bool.{true, false}
 use Rattle.exchanges.proofs.Trade.{turned, refused_a, refused_b, shows, room, trades, exchanged}
-use borrow.Author.Rules.{rules}
 use Rattle.exchanges.proofs.exchange.Goals as goal
 
 pub held_of-held_a-requires : goal.held_of-held_a-requires

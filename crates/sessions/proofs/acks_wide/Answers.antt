@@ -6,7 +6,6 @@ use native.Mathlib.Omega.{arith}
 use Rattle.meaning.specs.Table.{Form, form_of, acks_wide}
 use Rattle.meaning.specs.Steps.{on_columns}
 use Rattle.layout.proofs.FormLaws.{has_columns, has_vectors}
-use borrow.Author.Rules.{rules}
 use Rattle.sessions.proofs.acks_wide.Goals as goal
 
 none : (f : Form) (n : ℕ) (b : Bool) → b ≡ on_columns f → b ≡ true → (0 ≡ acks_wide f n) × (0 ≤ n)

@@ -17,7 +17,6 @@ use Rattle.looks.specs.Applied.{Applied}
 use Rattle.openings.specs.Begun.{begun, OwnOnly, Starts}
 use Rattle.openings.proofs.OwnLaws.{own_starts}
 use Rattle.exchanges.specs.Met.{crowded, Exchanged, Meets, Traded}
-use borrow.Author.Rules.{rules}
 use Rattle.sessions.proofs.meet.Goals as goal
 
 module _ (t : List ℕ) (a b ca cb o : ℕ) (pre : Sound t × (a < count t) × (b < count t) × (a ≡ b → ⊥) × (o ≤ 3)) where

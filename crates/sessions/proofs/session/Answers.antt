@@ -1,5 +1,5 @@
 -- `sessions::session` meets its contract: the refusals in their order, or the meeting.
-use mathlib.Core.Path.{◌≡◌, refl}
+use mathlib.Core.Path.{◌≡◌}
 use mathlib.Core.List.{List}
 use Prim.Native.Nat.{ℕ, ◌<◌, ◌≤◌}
 use native.Mathlib.Omega.{arith}
@@ -8,7 +8,6 @@ use Rattle.meaning.specs.declared.Action.TheVariants.{Session}
 use Rattle.meaning.specs.Table.{count, Sound}
 use Rattle.meaning.proofs.StepLaws.{session_is_2, session_is_3_a, session_is_3_b, session_is_4, refuse}
 use Rattle.looks.specs.Applied.{Applied}
-use borrow.Author.Rules.{rules}
 use Rattle.sessions.proofs.session.Goals as goal
 
 module _ (t : List ℕ) (s : Sound t) (a b ca cb o : ℕ) where
@@ -41,17 +40,17 @@ returns-then-outcome-gt3 c =
 pub returns-then-n-p : goal.returns-then-n-p
 returns-then-n-p c =
     absent_a c.args.t.now c.requires c.args.a c.args.b c.args.ca c.args.cb c.args.outcome
-    c.if-outcome-gt3.false c.nodes_of-n.result c.nodes_of-n.ensures.0 c.if-n-p.true
+    (omega arith) c.nodes_of-n.result c.nodes_of-n.ensures.0 c.if-n-p.true
 
 pub returns-then-n-q : goal.returns-then-n-q
 returns-then-n-q c =
     absent_b c.args.t.now c.requires c.args.a c.args.b c.args.ca c.args.cb c.args.outcome
-    c.if-outcome-gt3.false c.nodes_of-n.result c.nodes_of-n.ensures.0 c.if-n-q.true
+    (omega arith) c.nodes_of-n.result c.nodes_of-n.ensures.0 c.if-n-q.true
 
 pub returns-then-p-q : goal.returns-then-p-q
 returns-then-p-q c =
     twice c.args.t.now c.requires c.args.a c.args.b c.args.ca c.args.cb c.args.outcome
-    c.if-outcome-gt3.false c.nodes_of-n.result c.nodes_of-n.ensures.0 c.if-n-p.false c.if-n-q.false c.if-p-q.true
+    (omega arith) c.nodes_of-n.result c.nodes_of-n.ensures.0 c.if-n-p.false c.if-n-q.false c.if-p-q.true
 
 pub meet-requires : goal.meet-requires
 meet-requires c =

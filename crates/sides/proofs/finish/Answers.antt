@@ -2,7 +2,6 @@
 use Rattle.meaning.specs.Table.{form_of}
 use Rattle.layout.proofs.FormLaws.{has_columns, has_vectors}
 use Rattle.sides.proofs.RowsLaws.{columns_ready, finished_columns, acks_raise, finished_vectors}
-use borrow.Author.Rules.{rules}
 use Rattle.sides.proofs.finish.Goals as goal
 
 pub merge-requires : goal.merge-requires

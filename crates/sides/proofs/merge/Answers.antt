@@ -4,7 +4,6 @@ use mathlib.Core.Bool.{Bool, true, false}
 use mathlib.Core.List.{List}
 use Prim.Native.Nat.{ℕ}
 use Rattle.sides.specs.Ended.{settled, Merged}
-use borrow.Author.Rules.{rules}
 use Rattle.sides.proofs.merge.Goals as goal
 
 -- by the branch that was taken

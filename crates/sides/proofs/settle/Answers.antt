@@ -3,7 +3,6 @@ use mathlib.Core.Path.{◌∙◌}
 use Rattle.meaning.specs.Table.{form_of}
 use Rattle.layout.proofs.FormLaws.{has_columns, has_vectors}
 use Rattle.sides.proofs.RowsLaws.{summary_put, settled_columns, acks_then, settled_vectors}
-use borrow.Author.Rules.{rules}
 use Rattle.sides.proofs.settle.Goals as goal
 
 pub put_entry-requires : goal.put_entry-requires

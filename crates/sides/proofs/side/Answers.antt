@@ -11,7 +11,6 @@ use Rattle.openings.specs.Begun.{held_log}
 use Rattle.sides.specs.Ended.{came, Merged, Merges, Sided, Sides, Takes, Took}
 use Rattle.sides.proofs.KeptLaws.{kept_form, kept_count, kept_own}
 use Rattle.sides.proofs.SideLaws.{crowd, came-carried, taken_long, taken_rows, side_put}
-use borrow.Author.Rules.{rules}
 use Rattle.sides.proofs.side.Goals as goal
 
 acks_few : (f : Form) (n : ℕ) → acks_wide f n ≤ n

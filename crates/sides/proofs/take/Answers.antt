@@ -14,7 +14,6 @@ use Rattle.logs.specs.Carry.{log_records, CarriesAll, Puts}
 use Rattle.openings.specs.Begun.{crowds, held_log}
 use Rattle.openings.proofs.LogLaws.{right_log}
 use Rattle.sides.specs.Ended.{Takes, Took}
-use borrow.Author.Rules.{rules}
 use Rattle.sides.proofs.take.Goals as goal
 
 module _ {t : List ℕ} {f : Bool} {p q : ℕ} {known : List ℕ} {had shown : ℕ} (s : Takes t f p q known had shown) where

@@ -4,7 +4,6 @@ use mathlib.Core.Bool.{not}
 use borrow.Author.Tests.{not-true, not-false}
 use Rattle.meaning.proofs.TableLaws.{sound_facts}
 use Rattle.meaning.proofs.StepLaws.{refuse, unsound_refusal}
-use borrow.Author.Rules.{rules}
 use Rattle.table.proofs.apply.Goals as goal
 
 pub returns-then-not-is_sound : goal.returns-then-not-is_sound
@@ -16,3 +15,6 @@ returns-then-not-is_sound c =
 pub apply_sound-requires : goal.apply_sound-requires
 apply_sound-requires c =
     sound_facts c.args.t.now (sym c.is_sound.ensures ∙ not-false c.is_sound.result (ap not c.if-not-is_sound.false))
+
+pub returns : goal.returns
+returns c = c.apply_sound.ensures

@@ -1,5 +1,4 @@
 -- `table::apply_sound` meets its contract, by the kind of action.
-use borrow.Author.Rules.{rules}
 use Rattle.table.proofs.apply_sound.Goals as goal
 
 pub returns-in-Write : goal.returns-in-Write

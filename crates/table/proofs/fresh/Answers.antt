@@ -10,7 +10,6 @@ use lib.Dec.{leb}
 use Rattle.meaning.specs.Table.{Form, Vectors, Columns, form_of, form_words, length_right, nodes_most, fresh, fresh_refusal, made_fresh, place}
 use Rattle.meaning.proofs.RowLaws.{and_both}
 use Rattle.meaning.proofs.TableLaws.{fresh-count_wrong, fresh-length_wrong, fresh_right}
-use borrow.Author.Rules.{rules}
 use Rattle.table.proofs.fresh.Goals as goal
 
 -- the count put over zeros, and what the test of the length says where it passes
@@ -53,12 +52,12 @@ module _ (t : List ℕ) (n : ℕ) where
 
 pub returns-then-n-lt2 : goal.returns-then-n-lt2
 unfolding Right
-returns-then-n-lt2 c = few c.args.t.now c.args.n c.if-n-lt2.true
+returns-then-n-lt2 c = few c.args.t.now c.args.n (omega arith)
 
 pub returns-then-n-gt16 : goal.returns-then-n-gt16
 unfolding Right
 returns-then-n-gt16 c =
-    many c.args.t.now c.args.n c.if-n-gt16.true
+    many c.args.t.now c.args.n (omega arith)
 
 pub returns-then-not-is_long : goal.returns-then-not-is_long
 unfolding Right
@@ -73,6 +72,6 @@ put_word-requires c =
 pub returns : goal.returns
 unfolding Right
 returns c =
-    made c.args.t.now c.args.n c.if-n-lt2.false c.if-n-gt16.false c.is_long.result c.is_long.ensures
+    made c.args.t.now c.args.n (omega arith) (omega arith) c.is_long.result c.is_long.ensures
     (ap not c.if-not-is_long.false) c.clear.new.row
     c.put_word.new.t c.clear.ensures c.put_word.ensures

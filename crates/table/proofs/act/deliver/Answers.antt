@@ -5,7 +5,6 @@ use borrow.Author.Tests.{not-true, not-false}
 use lib.ListN.{length}
 use Rattle.meaning.proofs.TableLaws.{sound_facts}
 use Rattle.deliveries.proofs.LentLaws.{lent_refuse, lent_is_1}
-use borrow.Author.Rules.{rules}
 use Rattle.table.proofs.act.deliver.Goals as goal
 
 pub returns-then-not-is_sound : goal.returns-then-not-is_sound
@@ -17,3 +16,6 @@ returns-then-not-is_sound c =
 pub deliver-requires : goal.deliver-requires
 deliver-requires c =
     sound_facts _ (sym c.is_sound.ensures ∙ not-false c.is_sound.result (ap not c.if-not-is_sound.false))
+
+pub returns : goal.returns
+returns c = c.deliver.ensures

@@ -4,7 +4,6 @@ use mathlib.Core.Bool.{not}
 use borrow.Author.Tests.{not-true, not-false}
 use Rattle.meaning.proofs.TableLaws.{sound_facts}
 use Rattle.meaning.proofs.StepLaws.{refuse, unsound_refusal}
-use borrow.Author.Rules.{rules}
 use Rattle.table.proofs.act.purge.Goals as goal
 
 pub returns-then-not-is_sound : goal.returns-then-not-is_sound
@@ -12,3 +11,6 @@ returns-then-not-is_sound c = refuse _ _ 0 (unsound_refusal _ _ (sym c.is_sound.
 
 pub purge-requires : goal.purge-requires
 purge-requires c = sound_facts _ (sym c.is_sound.ensures ∙ not-false c.is_sound.result (ap not c.if-not-is_sound.false))
+
+pub returns : goal.returns
+returns c = c.purge.ensures
