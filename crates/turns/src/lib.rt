@@ -26,6 +26,7 @@ fn ends_at(s: &[u8], at: usize, due: usize) -> usize
 }
 
 // The digits of the line at a place, by its kind's two characters, where an LF ends it there; 0 where none does.
+#[tactic(auto, using(crate::proofs::TurnLaws::due_is, crate::proofs::TurnLaws::due_write, crate::proofs::TurnLaws::due_session, crate::proofs::TurnLaws::due_purge, crate::proofs::TurnLaws::due_delivery))]
 pub fn due_at(s: &[u8], at: usize) -> usize
     requires { at ≤ length s.now }
     ensures { result ≡ due_at s.now at }
