@@ -53,14 +53,14 @@ loop-end-preserved c =
 pub returns-then-seen-gt255 : goal.returns-then-seen-gt255
 returns-then-seen-gt255 c =
     let inv = c.loop-end.invariant in
-    count-wide _ inv.0 inv.1 _ (omega arith) _ _ _ _ _ inv.2 c.if-seen-gt255.true
+    count-wide _ inv.0 inv.1 _ (omega arith) _ _ _ _ _ inv.2 (omega arith)
 
 pub overflow_sub-gap : goal.overflow_sub-gap
 overflow_sub-gap c =
     let inv = c.loop-end.invariant in
-    count-gap _ inv.0 inv.1 _ (omega arith) _ _ _ _ _ inv.2 c.if-seen-gt255.false
+    count-gap _ inv.0 inv.1 _ (omega arith) _ _ _ _ _ inv.2 (omega arith)
 
 pub returns : goal.returns
 returns c =
     let inv = c.loop-end.invariant in
-    count-all _ inv.0 inv.1 _ (omega arith) _ _ _ _ _ inv.2 c.if-seen-gt255.false
+    count-all _ inv.0 inv.1 _ (omega arith) _ _ _ _ _ inv.2 (omega arith)
