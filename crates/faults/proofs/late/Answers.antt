@@ -8,7 +8,7 @@ returns-then-above c = let x = c.args in late_outcome x.above x.sums x.wrong x.c
 pub returns-then-not-sums : goal.returns-then-not-sums
 returns-then-not-sums c =
     let x = c.args in
-    late_sum x.above x.sums x.wrong x.check c.if-above.false c.if-not-sums.true
+    late_sum x.above x.sums x.wrong x.check (cc) c.if-not-sums.true
 
 pub returns-then-wrong : goal.returns-then-wrong
 returns-then-wrong c =

@@ -19,20 +19,20 @@ pub returns-then-long-eq1 : goal.returns-then-long-eq1
 returns-then-long-eq1 c =
     let s = c.args.s.now in
     let is : c.stray_at-stray.result ≡ stray_at s = c.stray_at-stray.ensures in
-    fault_is s 18 (length s) (refused_odd s (stray_past s (omega (arith, is, c.if-stray-long.false))) c.if-long-eq1.true)
+    fault_is s 18 (length s) (refused_odd s (stray_past s (omega (arith, is))) c.if-long-eq1.true)
 
 pub returns-then-long-eq0 : goal.returns-then-long-eq0
 returns-then-long-eq0 c =
     let s = c.args.s.now in
     let is : c.stray_at-stray.result ≡ stray_at s = c.stray_at-stray.ensures in
-    let given = refused_none s (stray_past s (omega (arith, is, c.if-stray-long.false))) c.if-long-eq0.true in
+    let given = refused_none s (stray_past s (omega (arith, is))) c.if-long-eq0.true in
     fault_is s 18 0 (given.0, given.1 ∙ c.if-long-eq0.true)
 
 pub spelled-requires : goal.spelled-requires
 spelled-requires c =
     let s = c.args.s.now in
     let is : c.stray_at-stray.result ≡ stray_at s = c.stray_at-stray.ensures in
-    (stray_past s (omega (arith, is, c.if-stray-long.false)), even_of (length s) c.if-long-eq1.false, some_of (length s) c.if-long-eq0.false)
+    (stray_past s (omega (arith, is)), even_of (length s) c.if-long-eq1.false, some_of (length s) c.if-long-eq0.false)
 
 pub returns : goal.returns
 returns c = c.spelled.ensures

@@ -20,13 +20,13 @@ pub returns-then-s-due : goal.returns-then-s-due
 returns-then-s-due c =
     let pre = c.requires in
     line_short c.args.s.now c.byte-kind.result c.length_of-due.result pre.0 c.byte-kind.ensures
-    c.length_of-due.ensures pre.1 pre.2 c.if-due-eq0.false c.if-s-due.true
+    c.length_of-due.ensures pre.1 pre.2 (omega arith) c.if-s-due.true
 
 pub returns-then-due-s : goal.returns-then-due-s
 returns-then-due-s c =
     let pre = c.requires in
     line_surplus c.args.s.now c.byte-kind.result c.length_of-due.result pre.0 c.byte-kind.ensures
-    c.length_of-due.ensures pre.1 pre.2 c.if-due-eq0.false c.if-due-s.true
+    c.length_of-due.ensures pre.1 pre.2 (omega arith) c.if-due-s.true
 
 pub outcome_above-requires : goal.outcome_above-requires
 outcome_above-requires c =
