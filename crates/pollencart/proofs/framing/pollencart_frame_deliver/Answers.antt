@@ -1,0 +1,14 @@
+-- `pollencart_frame_deliver` meets its contract: what the writer answers and leaves, handed on.
+use mathlib.Core.Path.{ap, ◌∙◌}
+use Rattle.meaning.specs.Frames.{framed_values}
+use Rattle.meaning.proofs.FrameLaws.{value_length}
+use Rattle.answers.proofs.ValueLaws.{short}
+use borrow.Author.Rules.{rules}
+use Rattle.pollencart.proofs.framing.pollencart_frame_deliver.Goals as goal
+
+pub report-requires : goal.report-requires
+report-requires c = short _ _ c.deliver-answer.ensures.0 (value_length _ _)
+
+pub returns : goal.returns
+returns c =
+    (c.report.ensures ∙ ap framed_values c.deliver-answer.ensures.0, c.deliver-answer.ensures.1)

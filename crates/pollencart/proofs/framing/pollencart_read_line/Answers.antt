@@ -1,0 +1,9 @@
+-- `pollencart_read_line` meets its contract: what the reader answers and leaves, handed on.
+use mathlib.Core.Path.{ap, ◌∙◌}
+use Rattle.answers.specs.Told.{fault_values}
+use borrow.Author.Rules.{rules}
+use Rattle.pollencart.proofs.framing.pollencart_read_line.Goals as goal
+
+pub returns : goal.returns
+returns c =
+    (c.locate.ensures ∙ ap fault_values c.read_words-fault.ensures.0, c.read_words-fault.ensures.1)
