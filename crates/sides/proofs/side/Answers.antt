@@ -79,6 +79,8 @@ pub merge-requires : goal.merge-requires
 merge-requires c =
     merges c.requires c.take-has.new.t c.take-has.ensures
 
+-- The words at exit are those that the merge of the rows left,
+-- and it began with those that the records left.
 pub returns : goal.returns
 returns c =
     done c.requires c.take-has.ensures c.merge.new.t c.merge.ensures
