@@ -2,17 +2,19 @@
 use mathlib.Core.Path.{◌≡◌, refl, sym, ◌∙◌, ap}
 use mathlib.Core.Bool.{Bool, true, false}
 use mathlib.Core.List.{List}
-use Prim.Native.Nat.{ℕ, ◌≤◌, ◌<◌}
+use Prim.Native.Nat.{ℕ, ◌≤◌}
 use native.Mathlib.Omega.{arith}
-use lib.ListN.{length, get_or, drop}
+use lib.ListN.{length, get_or, take, drop}
 use lib.Dec.{leb}
-use borrow.Author.Tests.{leb-true, leb-false, le-leb, lt-leb}
+use borrow.Author.Tests.{leb-true, leb-false, le-leb}
 use Rattle.meaning.specs.declared.Line.{Line}
 use Rattle.meaning.specs.Frames.{line_values, padded, six_values}
 use Rattle.meaning.proofs.FrameLaws.{good, clear}
 use Rattle.digits.specs.Digits.{sum_of, values_of}
 use Rattle.numbers.specs.Numbers.{joined_at, field_at}
-use Rattle.heads.proofs.QuickLaws.{session_good, good_session}
+use Rattle.heads.specs.Heads.{accepted}
+use Rattle.heads.proofs.HeadLaws.{accepted_not}
+use Rattle.heads.proofs.QuickLaws.{session_good, good_session, rest_part}
 use Rattle.heads.proofs.SaidLaws.{outcome_of, session_line_lem}
 use Rattle.six.proofs.SixLaws.{puts_not, puts_is}
 use Rattle.six.specs.Six.{session_words, met_words, Puts}
@@ -25,10 +27,18 @@ six_session l v long p q e f o =
     ap session_words f
     ∙ ap (λ (y : Line). padded 6 (drop 2 (line_values y))) (session_line_lem l long 0 p q e (rw f at o))
 
--- a session's outcome decides what is put
-pub met_above : (v w : List ℕ) (o : ℕ) → o ≡ joined_at v 20 1 → 3 < o → (false ≡ leb (joined_at v 20 1) 3) × (w ≡ met_words v w)
-met_above v w o e h = let no = lt-leb (joined_at v 20 1) 3 (omega arith) in (sym no, cc (no))
+-- what a line of 26 characters lacks that is refused
+module _ (l : List ℕ) (long : length l ≡ 26) where
+  pub session_first : (get_or l 0 0 ≡ 48 → ⊥) → accepted l ≡ false
+  session_first h = accepted_not l (λ g. h (good_session l long g).0)
 
+  pub session_second : (get_or l 1 0 ≡ 50 → ⊥) → accepted l ≡ false
+  session_second h = accepted_not l (λ g. h (good_session l long g).1)
+
+  pub session_sum : (sum_of (take 24 (drop 2 l)) ≡ 254 → ⊥) → accepted l ≡ false
+  session_sum h = accepted_not l (λ g. h (ap sum_of (rest_part l long) ∙ sym (good_session l long g).3))
+
+-- a session's outcome decides what is put
 pub met_within : (v w w' : List ℕ) (o : ℕ) → o ≡ joined_at v 20 1 → o ≤ 3 → w' ≡ session_words v
     → (true ≡ leb (joined_at v 20 1) 3) × (w' ≡ met_words v w)
 met_within v w w' o e h m = let yes = le-leb (joined_at v 20 1) 3 (omega arith) in (sym yes, m ∙ cc (yes))

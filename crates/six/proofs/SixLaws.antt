@@ -11,6 +11,8 @@ use Rattle.meaning.proofs.FrameLaws.{good, clear}
 use Rattle.digits.specs.Digits.{sum_of, values_of}
 use Rattle.numbers.specs.Numbers.{Joins}
 use Rattle.digits.proofs.DigitLaws.{sum_digits, length_values, values_small}
+use Rattle.heads.specs.Heads.{accepted}
+use Rattle.heads.proofs.QuickLaws.{good_write}
 use Rattle.heads.proofs.HeadLaws.{accepted_is, accepted_not}
 use Rattle.heads.proofs.SaidLaws.{write_line_lem}
 use Rattle.six.specs.Six.{write_words, Puts}
@@ -41,6 +43,17 @@ puts_not l w h = let no = accepted_not l (λ g. h (clear l g)) in (sym no, cc (n
 
 pub puts_is : (l w w' : List ℕ) → line_refusal l ≡ 0 → w' ≡ six_values l → Puts l w true w'
 puts_is l w w' z e = let yes = accepted_is l (good l z) in (sym yes, e ∙ cc (yes))
+
+-- what a line of 24 characters lacks that is refused
+module _ (l : List ℕ) (long : length l ≡ 24) where
+  pub write_first : (get_or l 0 0 ≡ 48 → ⊥) → accepted l ≡ false
+  write_first h = accepted_not l (λ g. h (good_write l long g).0)
+
+  pub write_second : (get_or l 1 0 ≡ 49 → ⊥) → accepted l ≡ false
+  write_second h = accepted_not l (λ g. h (good_write l long g).1)
+
+  pub write_sum : (sum_of l ≡ 0 → ⊥) → accepted l ≡ false
+  write_sum h = accepted_not l (λ g. h (sym (good_write l long g).2))
 
 -- digits' numbers that may be joined: those of a line whose sum is known
 pub joins_12 : (l v : List ℕ) (sum : ℕ) → length l ≡ 24 → sum ≡ sum_of l → sum < 256 → v ≡ values_of l → Joins v 0 12

@@ -24,13 +24,14 @@ use Rattle.meaning.specs.Frames.{
   padded,
   six_values,
   words_fault,
+  words_after,
   ReadWords,
 }
-use Rattle.meaning.proofs.FrameLaws.{kind_cases, words_refused, words_few, words_full}
+use Rattle.meaning.proofs.FrameLaws.{clear, kind_cases, words_refused, words_few, words_full}
 use Rattle.meaning.proofs.PlaceLaws.{mid_place}
-use Rattle.heads.specs.Heads.{no_line, short_of}
-use Rattle.heads.proofs.HeadLaws.{accepted_clear, accepted_refused}
-use Rattle.heads.proofs.QuickLaws.{short_tells, held_six, held_kind, held_not}
+use Rattle.heads.specs.Heads.{no_line, accepted, short_of}
+use Rattle.heads.proofs.HeadLaws.{accepted_not, accepted_clear, accepted_refused}
+use Rattle.heads.proofs.QuickLaws.{short_tells, held_six, held_kind, held_not, held_refused}
 use Rattle.heads.proofs.SaidLaws.{purge_line, deliver_line, start_line}
 use Rattle.six.specs.Six.{Puts}
 
@@ -59,6 +60,10 @@ module _ (l : List ℕ) (x : ℕ) (e : x ≡ short_of l) (few : length l < 24) (
           (λ z. ap said (at 3 z) ∙ ap (λ (y : Line). padded 6 (drop 2 (line_values y))) (purge_line l six x e h 0 (at 3 z)))
           (λ z. ap said (at 5 z) ∙ ap (λ (y : Line). padded 6 (drop 2 (line_values y))) (deliver_line l six x e h 0 (at 5 z)))
           k has is
+
+-- a short line that holds nothing is refused
+pub short_refused : (l : List ℕ) → length l < 24 → no_line ≤ short_of l → accepted l ≡ false
+short_refused l few h = accepted_not l (λ g. held_refused l (short_of l) refl few (omega arith) (clear l g))
 
 -- a line's six values are six
 length-padded : (k : ℕ) (xs : List ℕ) → length (padded k xs) ≡ k
@@ -93,6 +98,12 @@ module _ (l : List ℕ) where
           let n = eqb-false (line_refusal l) 0 x in
           let any = words_refused l words n in
           (e ∙ sym (words_refused l [] n).0 ∙ any.0, any.1)
+
+  pub few_told : (words : List ℕ) → length words < 6 → words_fault l words ≡ words_fault l []
+  few_told words h = sym (few_words words (words_fault l []) h refl).0
+
+  pub few_kept : (words : List ℕ) → length words < 6 → words_after l words ≡ words
+  few_kept words h = sym (few_words words (words_fault l []) h refl).1
 
   -- six words of those lent
   pub full_words : (words w' out : List ℕ) → 6 ≤ length words → Puts l (take 6 words) true w' → out ≡ w' ++ drop 6 words

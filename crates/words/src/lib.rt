@@ -9,6 +9,7 @@ use meaning::Fault;
 use six::put;
 
 // Fewer characters than a write's: a start's, a purge's, a delivery's, or none.
+#[tactic(auto, using(crate::proofs::WordLaws::short_refused))]
 fn put_short(s: &[u8], words: &mut [u32]) -> bool
     requires { (length s.now < 24) × (length words.old ≡ 6) }
     ensures { Puts s.now words.old result words.new }
@@ -37,6 +38,7 @@ fn put_sure(s: &[u8], words: &mut [u32]) -> bool
 }
 
 // The refusal of a line for which fewer than six words are lent: the line's own, and then 17.
+#[tactic(auto, using(crate::proofs::WordLaws::few_refused))]
 fn few(s: &[u8]) -> Fault
     ensures { result ≡ words_fault s.now [] }
 {
@@ -52,6 +54,7 @@ fn few(s: &[u8]) -> Fault
 
 // A line read in one call: its refusal and place as `reading::check` gives them, and after them 17 where fewer than six words are lent. An accepted line's
 // kind and its fields go into the first six words, 0 where the kind has no such field; a refused line changes none.
+#[tactic(auto, using(crate::proofs::WordLaws::few_told, crate::proofs::WordLaws::few_kept, heads::proofs::HeadLaws::whole_part))]
 pub fn read_words(s: &[u8], words: &mut [u32]) -> Fault
     ensures { ReadWords s.now words.old result words.new }
 {

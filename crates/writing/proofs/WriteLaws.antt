@@ -1,19 +1,13 @@
--- What a step's writer leaves, by the case that its action is. A session's answer, test by test.
+-- What a session's writer answers and leaves.
 use mathlib.Core.Path.{◌≡◌, refl, sym}
 use mathlib.Core.List.{List}
 use Prim.Native.Nat.{ℕ, ◌≤◌, ◌<◌}
 use lib.ListN.{length}
 use Rattle.meaning.specs.Table.{place}
 use Rattle.meaning.specs.declared.Framed.TheVariants.{Length, Refused}
-use Rattle.meaning.specs.declared.Framed.{Framed}
-use Rattle.meaning.specs.declared.Action.{Action}
 use Rattle.meaning.specs.declared.Action.TheVariants.{Session}
-use Rattle.meaning.specs.Frames.{Wrote, frame, frame_reply, frame_after}
+use Rattle.meaning.specs.Frames.{frame, frame_reply, frame_after}
 use Rattle.meaning.proofs.FrameLaws.{framed_outcome, framed_few, framed_full, length_session, above_three, within_three}
-
--- the answer for an action, by the case that it is
-pub by_case : (out out' : List ℕ) (r : Framed) (x y : Action) → x ≡ y → Wrote out y r out' → Wrote out x r out'
-by_case out out' r x y e p = rw e p
 
 -- a session's answer, test by test: the outcome, then the room
 pub session_outcome : (out : List ℕ) (a b ca cb o : ℕ) → 3 < o → frame_reply out (Session a b ca cb o) ≡ Refused 2

@@ -1,37 +1,12 @@
 -- `put_session` meets its contract: what a line of 26 characters must be, and its words.
-use mathlib.Core.Path.{◌≡◌, sym, ◌∙◌, ap}
+use mathlib.Core.Path.{◌≡◌, ◌∙◌, ap}
 use native.Mathlib.Omega.{arith}
 use lib.ListN.{drop, length-drop}
-use Rattle.meaning.proofs.FrameLaws.{good}
 use Rattle.digits.specs.Digits.{sum_of, values_of}
-use Rattle.heads.proofs.QuickLaws.{good_session, rest_part}
-use Rattle.six.proofs.SixLaws.{puts_not, joins_12}
+use Rattle.heads.proofs.QuickLaws.{rest_part}
+use Rattle.six.proofs.SixLaws.{joins_12}
 use Rattle.sessionwords.proofs.SessionWordLaws.{puts_met}
 use Rattle.sessionwords.proofs.put_session.Goals as goal
-
-pub returns-then-s-ne48 : goal.returns-then-s-ne48
-returns-then-s-ne48 c =
-    let s = c.args.s.now in
-    let words = c.args.words.now in
-    let long = c.requires.0 in
-    puts_not s words (λ z. c.if-s-ne48.true (good_session s long (good s z)).0)
-
-pub returns-then-s-ne50 : goal.returns-then-s-ne50
-returns-then-s-ne50 c =
-    let s = c.args.s.now in
-    let words = c.args.words.now in
-    let long = c.requires.0 in
-    puts_not s words (λ z. c.if-s-ne50.true (good_session s long (good s z)).1)
-
-pub returns-then-values-ne254 : goal.returns-then-values-ne254
-returns-then-values-ne254 c =
-    let s = c.args.s.now in
-    let words = c.args.words.now in
-    let long = c.requires.0 in
-    let values = c.values in
-    let rest = rest_part s long in
-    let is : values.result ≡ sum_of (drop 2 s) = values.ensures.0 ∙ ap sum_of rest in
-    puts_not s words (λ z. c.if-values-ne254.true (is ∙ sym (good_session s long (good s z)).3))
 
 pub put_met-requires : goal.put_met-requires
 put_met-requires c =
@@ -42,7 +17,7 @@ put_met-requires c =
     let rest = rest_part s long in
     let is : values.result ≡ sum_of (drop 2 s) = values.ensures.0 ∙ ap sum_of rest in
     let told : v ≡ values_of (drop 2 s) = values.ensures.1 ∙ ap values_of rest in
-    let joins = joins_12 (drop 2 s) v values.result (omega (arith, length-drop 2 s, long)) is (omega (arith, c.if-values-ne254.false)) told in
+    let joins = joins_12 (drop 2 s) v values.result (omega (arith, length-drop 2 s, long)) is (omega arith) told in
     (joins, c.requires.1)
 
 pub returns : goal.returns
@@ -55,5 +30,5 @@ returns c =
     let is : values.result ≡ sum_of (drop 2 s) = values.ensures.0 ∙ ap sum_of rest in
     let told : v ≡ values_of (drop 2 s) = values.ensures.1 ∙ ap values_of rest in
     let put = c.put_met in
-    puts_met s v c.args.words.now put.new.words put.result long c.if-s-ne48.false c.if-s-ne50.false (sym c.if-values-ne254.false ∙ is) told
+    puts_met s v c.args.words.now put.new.words put.result long (omega arith) (omega arith) (omega (arith, is)) told
     put.ensures.0 put.ensures.1
