@@ -9,9 +9,6 @@ pub cut_columns-requires : goal.cut_columns-requires
 cut_columns-requires c =
     (c.requires, columns_form (form_of c.args.t.now) c.has_columns.result c.has_columns.ensures (search rules))
 
-pub returns-then-has_columns : goal.returns-then-has_columns
-returns-then-has_columns c = c.cut_columns.ensures
-
 pub limit_of-low-requires : goal.limit_of-low-requires
 limit_of-low-requires c = (
   c.requires.is_sound,

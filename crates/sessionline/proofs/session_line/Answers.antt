@@ -42,5 +42,5 @@ pub returns : goal.returns
 returns c =
     session_turned c.args.t.now c.requires.0 c.args.s.now c.values.new.v c.values.result c.requires.1
     c.values.ensures.0 c.values.ensures.1 c.if-values-ne254.false c.byte_of.ensures c.byte_of-2.ensures
-    c.word_of.ensures c.word_of-2.ensures c.byte_of-outcome.ensures c.if-outcome-gt3.false
+    c.word_of.ensures c.word_of-2.ensures c.byte_of-outcome.ensures (omega arith)
     c.session-r.ensures c.count.ensures
