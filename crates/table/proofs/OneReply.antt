@@ -17,9 +17,9 @@ use Rattle.table.proofs.act.purge.Reads as purge
 use Rattle.table.proofs.act.deliver.Kinds as deliver_kinds
 use Rattle.table.proofs.act.deliver.Reads as deliver
 use Rattle.table.proofs.act.deliver_alone.Kinds as deliver_alone_kinds
-use Rattle.table.proofs.act.deliver_alone.Reads as deliver_alone_lem
+use Rattle.table.proofs.act.deliver_alone.Reads as deliver_alone
 use Rattle.table.proofs.apply_sound.Kinds as apply_sound_kinds
-use Rattle.table.proofs.apply_sound.Reads as apply_sound_lem
+use Rattle.table.proofs.apply_sound.Reads as apply_sound
 
 -- a reply and the words at exit
 abbrev Applied : Type 0
@@ -48,8 +48,8 @@ pub one_deliver : OneReply 2 deliver_kinds.ps deliver_kinds.r deliver.Post {R = 
 one_deliver κs a x y s s' p q =
     ap₂ (λ (z : Applied) (l : List ℕ). (z, l)) (same (p.0, p.1) (q.0, q.1)) (p.2 ∙ sym q.2)
 
-pub one_deliver_alone : OneReply 1 deliver_alone_kinds.ps deliver_alone_kinds.r deliver_alone_lem.Post {R = Applied} (λ κs x s. (x, s.0.now))
+pub one_deliver_alone : OneReply 1 deliver_alone_kinds.ps deliver_alone_kinds.r deliver_alone.Post {R = Applied} (λ κs x s. (x, s.0.now))
 one_deliver_alone κs a x y s s' p q = same p q
 
-pub one_sound_step : OneReply 1 apply_sound_kinds.ps apply_sound_kinds.r apply_sound_lem.Post {R = Applied} (λ κs x s. (x, s.0.now))
+pub one_sound_step : OneReply 1 apply_sound_kinds.ps apply_sound_kinds.r apply_sound.Post {R = Applied} (λ κs x s. (x, s.0.now))
 one_sound_step κs a x y s s' p q = same p q
