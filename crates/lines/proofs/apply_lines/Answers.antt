@@ -1,10 +1,8 @@
 -- `apply_lines` goes by the one look over the table.
 use mathlib.Core.Path.{sym, ◌∙◌}
 use native.Mathlib.Omega.{arith}
-use borrow.Author.Tests.{not-true, not-false}
 use Rattle.meaning.proofs.TableLaws.{sound_facts}
 use Rattle.lines.proofs.Applying.{lines_unsound, lines_sound}
-use borrow.Author.Rules.{rules}
 use Rattle.lines.proofs.apply_lines.Goals as goal
 
 pub returns-then-not-is_sound : goal.returns-then-not-is_sound

@@ -5,7 +5,6 @@ use Rattle.meaning.proofs.StepLaws.{after-sound}
 use Rattle.steplines.specs.StepLines.{refused_by}
 use Rattle.steplines.proofs.StepLineLaws.{refused_counts, one_most}
 use Rattle.lines.proofs.Applying.{verdict_fits}
-use borrow.Author.Rules.{rules}
 use Rattle.lines.proofs.step.Goals as goal
 
 pub returns : goal.returns
