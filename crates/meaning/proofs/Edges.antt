@@ -3,8 +3,8 @@
 -- one does not, the checker says `Holds "its name" ..` of the first that fails. The theorem `edges` is the whole table at once.
 -- A step runs on a real table of 4,641 or 8,225 words. Each action that a form accepts has a row there that shows refusal, both counts, and place and new
 -- value of every word that changed, so that no other word did. To walk a table is what costs, so the other rows leave out what is proved of every table: that a
--- refusal changes no word (`StepLaws.after-refused`), that no step changes one beyond n (`Numbers.after-outside`) and that none but a delivery moves a mark
--- (`StepLaws.session-mark`); and what one node does by itself is computed of the node.
+-- refusal changes no word (`StepLaws.after_refused`), that no step changes one beyond n (`Numbers.after_outside`) and that none but a delivery moves a mark
+-- (`StepLaws.session_mark`); and what one node does by itself is computed of the node.
 use mathlib.Core.Path.{◌≡◌, refl}
 use mathlib.Core.Bool.{Bool, true, false, ◌&&◌, cond}
 use mathlib.Core.List.{List, [], ◌∷◌, ◌++◌, map}

@@ -6,7 +6,7 @@
 -- How to read it. `run Vectors n es` is what the list of events `es` makes of a fresh table of n nodes with vectors, the plain account of demand 3
 -- beside it (specs/Account.antt); on columns every delivery is refused. `order_of n es p` (specs/Order.antt) is node p's delivered list, all its
 -- deliveries one after the other: at each accepted delivery of p, what `given` says, which is what the code's contract says is written into the lent
--- list. `inOrder` is the list by timestamp and then origin. Any list of steps, also wrong ones: a refused delivery gives nothing and leaves the mark.
+-- list. `in_order` is the list by timestamp and then origin. Any list of steps, also wrong ones: a refused delivery gives nothing and leaves the mark.
 use mathlib.Core.Path.{◌≡◌, sym, ap, ◌∙◌}
 use mathlib.Core.Bool.{Bool, true, false, ◌&&◌}
 use mathlib.Core.Logic.{◌⊎◌, inl, inr}

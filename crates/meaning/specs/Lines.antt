@@ -1,5 +1,5 @@
 -- Lines on a table that is there already: what one line does to it, and what many do, one after another. The composition of what a line says
--- (`readLine`, `stepsFrom`) and of what a step does (`reply`, `after`), and nothing new.
+-- (`read_line`, `steps_from`) and of what a step does (`reply`, `after`), and nothing new.
 use Rattle.std.specs.Prelude.{cond, List, [], ◌∷◌, ◌++◌, ℕ, length}
 use Rattle.meaning.specs.declared.Line.{Line}
 use Rattle.meaning.specs.declared.Line.TheVariants.{Begin, Act, Refused}

@@ -1,5 +1,5 @@
 -- `rows::least_with` meets its contract: the invariant says that `low` stands at `at` in the row with v in its place, that no entry passed is smaller,
--- and that every entry passed before `at` is greater. At the end no other number and no other place have these facts (`RowLaws.leastAt-is`).
+-- and that every entry passed before `at` is greater. At the end no other number and no other place have these facts (`RowLaws.least_at_is`).
 use mathlib.Core.Path.{◌≡◌}
 use mathlib.Core.List.{List}
 use Prim.Native.Nat.{ℕ, ◌-◌, ◌≤◌, ◌<◌}
