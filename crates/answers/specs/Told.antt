@@ -14,7 +14,8 @@ Stepped t x told u = (told ≡ take (length told) (reply_values (reply t x))) ×
 -- of a delivery into a lent list: the number and the count; and the table and the list at exit
 abbrev pub DeliveryTold : List ℕ → List ℕ → ℕ → List ℕ → List ℕ → List ℕ → Type 0
 DeliveryTold t list p told u out =
-    (told ≡ take (length told) (reply_values (lent_reply t (length list) (Deliver p)))) × (u ≡ lent_after t (length list) (Deliver p)) × (out ≡ list_after t list p)
+    (told ≡ take (length told) (reply_values (lent_reply t (length list) (Deliver p)))) × (u ≡ lent_after t (length list) (Deliver p)) ×
+        (out ≡ list_after t list p)
 
 -- of a line: the number, the counts and the place in the line; and the table at exit
 abbrev pub LineTold : List ℕ → List ℕ → List ℕ → List ℕ → Type 0

@@ -89,7 +89,8 @@ module _ (l : List ℕ) where
             ∙ ap (λ (z : Line). get_or (line_values z) (3 + i) 0) (line_act 0)
 
       -- the field of a kind that has only one
-      pub short_value : (i r : ℕ) → (kind ≡ 1 → ⊥) → (kind ≡ 2 → ⊥) → r ≡ get_or (fields_of (purge_at l)) i 0 → r ≡ get_or (line_values (read_line 0 l)) (3 + i) 0
+      pub short_value : (i r : ℕ) → (kind ≡ 1 → ⊥) → (kind ≡ 2 → ⊥) → r ≡ get_or (fields_of (purge_at l)) i 0 →
+          r ≡ get_or (line_values (read_line 0 l)) (3 + i) 0
       short_value i r p q e = go (eqb kind 0) (eqb kind 5) refl refl
         where
           go : (b d : Bool) → eqb kind 0 ≡ b → eqb kind 5 ≡ d → r ≡ get_or (line_values (read_line 0 l)) (3 + i) 0

@@ -3,7 +3,6 @@ ghost use Rattle.std.specs.Prelude.{◌≤◌, ◌<◌};
 ghost use Rattle.meaning.specs.Table.{nodes_most};
 
 use meaning::{Line, Reply};
-use std::io::Write;
 
 // Bytes as they are. Where a write fails the program says nothing of it: what it printed is compared.
 pub(crate) fn text(rt: &HostRuntime, bytes: &[u8]) {

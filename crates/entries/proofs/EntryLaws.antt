@@ -188,7 +188,8 @@ module _ (t : List ℕ) (p : ℕ) where
     unfolding record_word
     word_beyond h q = rw h (no_word (get_or (node t p).log i nothing) k q)
 
-    pub record_is : (n at : ℕ) → present t p ≡ true → n ≡ held t p → i < n → k ≤ 3 → at ≡ log_at (form_of t) p → get_or t (at + 4 * i + k) 0 ≡ record_word t p i k
+    pub record_is : (n at : ℕ) → present t p ≡ true → n ≡ held t p → i < n → k ≤ 3 → at ≡ log_at (form_of t) p →
+        get_or t (at + 4 * i + k) 0 ≡ record_word t p i k
     unfolding record_word node
     record_is n at h e q m a =
         let r = (is_sound_lem h).room p (is_node h) in

@@ -1,5 +1,32 @@
 -- Laws of what a frame's parts leave: words or characters put one after the other, and the check.
-use Rattle.std.proofs.Common.{◌≡◌, ℕ, ◌+◌, ◌-◌, ◌*◌, ◌/◌, ◌%◌, ◌<◌, ◌≤◌, List, [], ◌∷◌, ◌++◌, length, get_or, take, drop, set, sym, refl, ap, ◌∙◌, arith, take-append-drop, length-take-le, take_at}
+use Rattle.std.proofs.Common.{
+  ◌≡◌,
+  ℕ,
+  ◌+◌,
+  ◌-◌,
+  ◌*◌,
+  ◌/◌,
+  ◌%◌,
+  ◌<◌,
+  ◌≤◌,
+  List,
+  [],
+  ◌∷◌,
+  ◌++◌,
+  length,
+  get_or,
+  take,
+  drop,
+  set,
+  sym,
+  refl,
+  ap,
+  ◌∙◌,
+  arith,
+  take-append-drop,
+  length-take-le,
+  take_at,
+}
 use Rattle.meaning.specs.Table.{place, part}
 use Rattle.meaning.specs.Frames.{spelled, high_first, total, check, sealed}
 use Rattle.meaning.proofs.PlaceLaws.{place-part, set-place, place_none}

@@ -55,7 +55,8 @@ put_short_lem out₀ out b d kind n e h p q r =
 abbrev write_bytes : ℕ → ℕ → ℕ → ℕ → List ℕ
 write_bytes p t b v = 1 ∷ packed (widths 1) (p ∷ t ∷ b ∷ v ∷ [])
 
-pub fill_write_lem : (t₀ t₁ t₂ t₃ : List ℕ) (p t b v x y : ℕ) → 12 ≤ length t₀ → x ≡ p % 256 → y ≡ v % 256 → t₁ ≡ place 2 (high_first 4 t) (set (set t₀ 0 1) 1 x)
+pub fill_write_lem : (t₀ t₁ t₂ t₃ : List ℕ) (p t b v x y : ℕ) → 12 ≤ length t₀ → x ≡ p % 256 → y ≡ v % 256 →
+    t₁ ≡ place 2 (high_first 4 t) (set (set t₀ 0 1) 1 x)
     → t₂ ≡ place 6 (high_first 4 b) t₁ → t₃ ≡ place 0 (sealed (take 11 (set t₂ 10 y))) (set t₂ 10 y) → t₃ ≡ place 0 (sealed (write_bytes p t b v)) t₀
 unfolding high_first packed widths_in journal_kinds
 fill_write_lem t₀ t₁ t₂ t₃ p t b v x y h ex ey p₁ p₂ p₃ =

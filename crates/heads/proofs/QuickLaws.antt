@@ -312,7 +312,8 @@ module _ (a b c d e f : ℕ) where
       let zeroes : (sum + (16 * digit_value e + digit_value f)) % 256 ≡ 0 = omega (arith, total_is, zero-sum, kind_is) in
       (held.0, dc, dd, held.1, check_right sum e f de df zeroes)
 
-  digits_six : digit_value a < 16 → digit_value b < 16 → digit_value c < 16 → digit_value d < 16 → digit_value e < 16 → digit_value f < 16 → all_digits line ≡ true
+  digits_six : digit_value a < 16 → digit_value b < 16 → digit_value c < 16 → digit_value d < 16 → digit_value e < 16 → digit_value f < 16 →
+      all_digits line ≡ true
   unfolding line all_digits
   digits_six p q r s t u =
       cc (
@@ -356,7 +357,8 @@ module _ (a b c d e f : ℕ) where
             start = start_right k kind_is count (eqb k 0) refl;
           }
         where
-          start_right : (k : ℕ) → line_kind (bytes_of line) ≡ k → (k ≡ 0 → count_right n ≡ true) → (t : Bool) → eqb k 0 ≡ t → start_wrong (bytes_of line) ≡ false
+          start_right : (k : ℕ) → line_kind (bytes_of line) ≡ k → (k ≡ 0 → count_right n ≡ true) → (t : Bool) → eqb k 0 ≡ t →
+              start_wrong (bytes_of line) ≡ false
           start_right k is count true x =
               let z = eqb-true k 0 x in
               start_test line k is z ∙ ap (λ (m : ℕ). not (count_right m)) field_is ∙ ap not (count z)

@@ -50,7 +50,8 @@ unfolding next_in
 refused_inside first s at line {k} {p} e = go (leb (length s) at) refl e
   where
     go : (a : Bool) → leb (length s) at ≡ a
-        → cond a End (cond (unended s at) (RefusedAt 14 (length (drop at s))) (in_turn first (place_after s at) (read_line line (line_at s at)))) ≡ RefusedAt k p
+        → cond a End (cond (unended s at) (RefusedAt 14 (length (drop at s))) (in_turn first (place_after s at) (read_line line (line_at s at))))
+        ≡ RefusedAt k p
         → leb (length s) at ≡ false
     go true q r = never (cc)
     go false q r = q

@@ -82,7 +82,8 @@ stored_many leaves k (r ∷ rs) = go (leaves r) (stored_many leaves k rs) (store
     go false p q = ap suc q
 
 -- each row stored is one further than the last, the first is row k
-pub stored_at : (leaves : Record → Bool) (k : ℕ) (rs : List Record) (j : ℕ) → j < length (stored_rows leaves k rs) → get_or (stored_rows leaves k rs) j 0 ≡ k + j
+pub stored_at : (leaves : Record → Bool) (k : ℕ) (rs : List Record) (j : ℕ) → j < length (stored_rows leaves k rs) →
+    get_or (stored_rows leaves k rs) j 0 ≡ k + j
 unfolding stored_rows
 stored_at leaves k [] j h = absurd (omega arith)
 stored_at leaves k (r ∷ rs) j h = go (leaves r) (stored_at leaves k rs) (stored_at leaves (suc k) rs) j h

@@ -133,7 +133,8 @@ length-raise_each (c ∷ cs) (d ∷ ds) zero a b = absurd (omega arith)
 length-raise_each (c ∷ cs) (d ∷ ds) (suc k) a b = ap suc (length-raise_each cs ds k (omega arith) (omega arith))
 
 pub get_or-raise_each :
-    (cs ds : List (List ℕ)) (q : ℕ) (e : List ℕ) → q < length cs → length cs ≡ length ds → get_or (raise_each cs ds) q e ≡ raise (get_or cs q []) (get_or ds q [])
+    (cs ds : List (List ℕ)) (q : ℕ) (e : List ℕ) → q < length cs → length cs ≡ length ds →
+    get_or (raise_each cs ds) q e ≡ raise (get_or cs q []) (get_or ds q [])
 unfolding raise_each
 get_or-raise_each [] ds q e h l = absurd (omega arith)
 get_or-raise_each (c ∷ cs) [] q e h l = absurd (omega arith)

@@ -328,7 +328,8 @@ told =
 
 pub rows : List Row
 unfolding every all keep least least_at raise covers newer above due earlier inserted in_order record_at records words part place form_of count held mark
-    columns_from node lay column_pieces pieces put_node put_mark fresh fresh_refusal made_fresh record_sound log_sound sound own wrote opened raise_each learnt finished
+    columns_from node lay column_pieces pieces put_node put_mark fresh fresh_refusal made_fresh
+    record_sound log_sound sound own wrote opened raise_each learnt finished
     purged limit_of leaves lows waiting given raised refusals refusal limit leaving lagging acted reported reply after due_of lent_refusals
     lent_refusal lent_reply lent_after list_after digit digit_value spelled bytes_of all_digits stray_at total
     check journal_kinds known_in widths_in digits_in field_place_in high_first number packed unpacked action_of sealed frame_in frame start_frame line_kind

@@ -114,7 +114,8 @@ length-bytes_of [] = refl
 length-bytes_of (h ∷ []) = refl
 length-bytes_of (h ∷ (c ∷ cs)) = omega (arith, length-bytes_of cs)
 
-pub byte_at : (l : List ℕ) (k : ℕ) → k < length (bytes_of l) → get_or (bytes_of l) k 0 ≡ 16 * digit_value (get_or l (2 * k) 0) + digit_value (get_or l (2 * k + 1) 0)
+pub byte_at : (l : List ℕ) (k : ℕ) → k < length (bytes_of l) →
+    get_or (bytes_of l) k 0 ≡ 16 * digit_value (get_or l (2 * k) 0) + digit_value (get_or l (2 * k + 1) 0)
 unfolding bytes_of
 byte_at [] k h = absurd (omega arith)
 byte_at (h ∷ []) k p = absurd (omega arith)

@@ -240,16 +240,19 @@ action_there : (bs : List ℕ) (kind : ℕ) → known kind ≡ true → (kind �
 unfolding action_of unpacked widths_in journal_kinds
 action_there bs =
     kind_cases
-    (λ (k : ℕ). (k ≡ 0 → ⊥) → (kind_of (action_of k (unpacked (widths k) bs)) ≡ k) × (fields_of (action_of k (unpacked (widths k) bs)) ≡ unpacked (widths k) bs))
+    (λ (k : ℕ). (k ≡ 0 → ⊥) → (kind_of (action_of k (unpacked (widths k) bs)) ≡ k) ×
+    (fields_of (action_of k (unpacked (widths k) bs)) ≡ unpacked (widths k) bs))
     (λ z. absurd (z refl)) (λ z. (refl, refl)) (λ z. (refl, refl)) (λ z. (refl, refl)) (λ z. (refl, refl))
 
 -- what a line that reads as a step, or as a start, is
 step_read : (line : ℕ) (l : List ℕ) (s : Step) → read_line line l ≡ Act s
-    → (line_refusal l ≡ 0) × (line_kind (bytes_of l) ≡ 0 → ⊥) × (s ≡ record { line = line; action = action_of (line_kind (bytes_of l)) (line_fields (bytes_of l)) })
+    → (line_refusal l ≡ 0) × (line_kind (bytes_of l) ≡ 0 → ⊥) ×
+    (s ≡ record { line = line; action = action_of (line_kind (bytes_of l)) (line_fields (bytes_of l)) })
 step_read line l s e = go (line_refusal l) (eqb (line_kind (bytes_of l)) 0) refl refl
   where
     go : (k : ℕ) (b : Bool) → line_refusal l ≡ k → eqb (line_kind (bytes_of l)) 0 ≡ b
-        → (line_refusal l ≡ 0) × (line_kind (bytes_of l) ≡ 0 → ⊥) × (s ≡ record { line = line; action = action_of (line_kind (bytes_of l)) (line_fields (bytes_of l)) })
+        → (line_refusal l ≡ 0) × (line_kind (bytes_of l) ≡ 0 → ⊥) ×
+        (s ≡ record { line = line; action = action_of (line_kind (bytes_of l)) (line_fields (bytes_of l)) })
     go (suc k) b p q = let r = read_refused line k l p in let z : ◌≡◌ {A = ℕ} 0 1 = cc in absurd (omega arith)
     go zero true p q =
         let r = read_begin line l p (eqb-true (line_kind (bytes_of l)) 0 q) in

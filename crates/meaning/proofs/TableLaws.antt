@@ -189,7 +189,8 @@ form_neither t a b = go (form_of t)
     go Vectors = a
     go Columns = b
 
-acks_long_lem : (f : Form) (n p : ℕ) (t : List ℕ) → n ≤ nodes_most → p < n → length t ≡ form_words f → length (part (acks_at p) (acks_wide f n) t) ≡ acks_wide f n
+acks_long_lem : (f : Form) (n p : ℕ) (t : List ℕ) → n ≤ nodes_most → p < n → length t ≡ form_words f →
+    length (part (acks_at p) (acks_wide f n) t) ≡ acks_wide f n
 acks_long_lem Vectors n p t hn hp e = length_part (acks_at p) n t (omega arith)
 acks_long_lem Columns n p t hn hp e = length_part (acks_at p) 0 t (omega arith)
 
@@ -576,7 +577,8 @@ module _ (t : List ℕ) (s : Sound t) (p : ℕ) (h : p < count t) (x : Node) (fi
         let k : part (acks_at q) (acks_wide (form_of u) (count u)) u ≡ part (acks_at q) (acks_wide f (count t)) t =
         rw (put_form, put_count) (rw put_same (laid_acks_other t s.high p h (s.room p h) x q j other f s.long fits))
         in
-        let c : columns_from (columns_wide (form_of u) (count u)) (column_at q 0) (count u) u ≡ columns_from (columns_wide f (count t)) (column_at q 0) (count t) t =
+        let c : columns_from (columns_wide (form_of u) (count u)) (column_at q 0) (count u) u ≡
+        columns_from (columns_wide f (count t)) (column_at q 0) (count t) t =
         rw (put_form, put_count) (rw put_same (laid_columns_other t s.high p h (s.room p h) x q j other f s.long fits))
         in
         let g : records (held u q) (part (log_at (form_of u) q) (4 * log_most) u) ≡ records (held t q) (part (log_at f q) (4 * log_most) t) =
@@ -681,7 +683,8 @@ module _ (t : List ℕ) (s : Sound t) (p : ℕ) (h : p < count t) (m : ℕ) wher
       let k : part (acks_at q) (acks_wide (form_of u) (count u)) u ≡ part (acks_at q) (acks_wide g (count t)) t =
       rw (mark_form, mark-count) (mark-part_away (acks_at q) (acks_wide g (count t)) (acks_before g q j))
       in
-      let c : columns_from (columns_wide (form_of u) (count u)) (column_at q 0) (count u) u ≡ columns_from (columns_wide g (count t)) (column_at q 0) (count t) t =
+      let c : columns_from (columns_wide (form_of u) (count u)) (column_at q 0) (count u) u ≡
+      columns_from (columns_wide g (count t)) (column_at q 0) (count t) t =
       rw (mark_form, mark-count)
       (columns_same (columns_wide g (count t)) (column_at q 0) (count t) t u (λ i k b e. mark-part_away k (count t) (column_before g q i k j b e)))
       in

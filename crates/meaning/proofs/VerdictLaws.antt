@@ -152,7 +152,8 @@ module _ (t : List ℕ) (p : ℕ) where
   held-records h k at eh ea ek room =
       rw (ea, ek, ← eh)
       (records_agree h (take (4 * h) (drop (log_at (form_of t) p) t)) (take (4 * log_most) (drop (log_at (form_of t) p) t))
-      (λ m below. get_or-take (4 * h) (drop (log_at (form_of t) p) t) m 0 below ∙ sym (get_or-take (4 * log_most) (drop (log_at (form_of t) p) t) m 0 (omega arith))))
+      (λ m below. get_or-take (4 * h) (drop (log_at (form_of t) p) t) m 0 below ∙
+      sym (get_or-take (4 * log_most) (drop (log_at (form_of t) p) t) m 0 (omega arith))))
 
   pub node_unsound : sound t ≡ false → Refused 1 ≡ node_count t p
   unfolding node_count first

@@ -2,7 +2,34 @@
 -- by 16 words at its end", the marks; and T-06, the form of columns: "each node keeps a column of summary entries for every node, its own being its
 -- summary (16 × 16 rows of 16 in place of both vectors, 8,225 words)".
 -- No other file of the product's definitions knows an offset.
-use Rattle.std.specs.Prelude.{◌≡◌, Bool, true, not, ◌&&◌, cond, List, [], ◌∷◌, ◌++◌, ℕ, zero, suc, ◌+◌, ◌-◌, ◌*◌, ◌≤◌, ◌<◌, length, get_or, take, drop, replicate, leb, ltb, eqb}
+use Rattle.std.specs.Prelude.{
+  ◌≡◌,
+  Bool,
+  true,
+  not,
+  ◌&&◌,
+  cond,
+  List,
+  [],
+  ◌∷◌,
+  ◌++◌,
+  ℕ,
+  zero,
+  suc,
+  ◌+◌,
+  ◌-◌,
+  ◌*◌,
+  ◌≤◌,
+  ◌<◌,
+  length,
+  get_or,
+  take,
+  drop,
+  replicate,
+  leb,
+  ltb,
+  eqb,
+}
 use Rattle.meaning.specs.declared.Record.{Record}
 use Rattle.meaning.specs.Rows.{every, all, unless, record_at, records, words}
 use Rattle.meaning.specs.Refusals.{test, first}

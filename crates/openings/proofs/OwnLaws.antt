@@ -5,7 +5,23 @@ use Prim.Native.Nat.{ℕ, ◌+◌, ◌≤◌, ◌<◌}
 use native.Mathlib.Omega.{arith}
 use lib.ListN.{length, take}
 use Rattle.meaning.specs.Rows.{least}
-use Rattle.meaning.specs.Table.{Form, Vectors, Columns, form_of, form_words, nodes_most, Node, acks_wide, summary_at, acks_at, held_at, part, count, node, Sound}
+use Rattle.meaning.specs.Table.{
+  Form,
+  Vectors,
+  Columns,
+  form_of,
+  form_words,
+  nodes_most,
+  Node,
+  acks_wide,
+  summary_at,
+  acks_at,
+  held_at,
+  part,
+  count,
+  node,
+  Sound,
+}
 use Rattle.meaning.specs.Node.{opened}
 use Rattle.rows.proofs.EntryLaws.{entry_set, entry_kept}
 use Rattle.openings.specs.Begun.{Starts, OwnOnly}

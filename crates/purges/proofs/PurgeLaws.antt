@@ -10,7 +10,24 @@ use Rattle.meaning.specs.declared.Record.{Record}
 use Rattle.meaning.specs.declared.Reply.TheVariants.{Purged, Refused}
 use Rattle.meaning.specs.declared.Action.TheVariants.{Purge}
 use Rattle.meaning.specs.Rows.{lowest, newer, above, all}
-use Rattle.meaning.specs.Table.{Form, Vectors, Columns, form_of, acks_at, acks_wide, Node, part, count, held, node, put_node, log_most, record_sound, Sound, Shaped}
+use Rattle.meaning.specs.Table.{
+  Form,
+  Vectors,
+  Columns,
+  form_of,
+  acks_at,
+  acks_wide,
+  Node,
+  part,
+  count,
+  held,
+  node,
+  put_node,
+  log_most,
+  record_sound,
+  Sound,
+  Shaped,
+}
 use Rattle.meaning.specs.Node.{purged}
 use Rattle.meaning.specs.Steps.{on_columns, limit, leaving, lagging, acted, reported}
 use Rattle.meaning.specs.Journals.{one_if}

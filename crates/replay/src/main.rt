@@ -5,7 +5,6 @@
 
 use input::Input;
 use std::io;
-use std::io::Write;
 
 // A line on standard error: what failed, and why. Where that fails too, nobody is left to tell.
 fn fail(rt: &HostRuntime, what: &str, failure: io::Result<()>) {

@@ -4,7 +4,22 @@ use mathlib.Core.List.{List}
 use Prim.Native.Nat.{ℕ, ◌+◌, ◌≤◌, ◌<◌}
 use native.Mathlib.Omega.{arith}
 use lib.ListN.{length, get_or}
-use Rattle.meaning.specs.Table.{Form, Vectors, Columns, form_of, nodes_most, column_at, summary_at, acks_at, held_at, columns_wide, part, columns_from, count, node}
+use Rattle.meaning.specs.Table.{
+  Form,
+  Vectors,
+  Columns,
+  form_of,
+  nodes_most,
+  column_at,
+  summary_at,
+  acks_at,
+  held_at,
+  columns_wide,
+  part,
+  columns_from,
+  count,
+  node,
+}
 use Rattle.meaning.proofs.PlaceLaws.{get_d_part}
 use Rattle.meaning.proofs.ColumnLaws.{columns_same}
 use Rattle.meaning.proofs.TableLaws.{form_same}

@@ -77,12 +77,14 @@ module _ (w : List ℕ) where
           low_is = subst (λ (z : ℕ). z < 64) slot_is low
 
           put : (a b : ℕ)
-              → Noted w row (set heads (slot_of (pair_of (record_at w row))) (row + 1)) (set links row (get_or heads (slot_of (pair_of (record_at w row))) 0)) a b
+              → Noted w row (set heads (slot_of (pair_of (record_at w row))) (row + 1))
+              (set links row (get_or heads (slot_of (pair_of (record_at w row))) 0)) a b
               → Noted w row hs ls a b
           put a b h =
               let eh' : hs ≡ set heads (slot_of (pair_of (record_at w row))) (row + 1)
               = eh ∙ ap (λ (z : ℕ). set heads z (end / 4)) slot_is ∙ ap (set heads (slot_of (pair_of (record_at w row)))) next in
-              let el' : ls ≡ set links row (get_or heads (slot_of (pair_of (record_at w row))) 0) = el ∙ ap (λ (z : ℕ). set links row (get_or heads z 0)) slot_is in
+              let el' : ls ≡ set links row (get_or heads (slot_of (pair_of (record_at w row))) 0) = el ∙
+              ap (λ (z : ℕ). set links row (get_or heads z 0)) slot_is in
               rw (eh', el') h
 
           pub new : (n : ℕ) → k ≡ 0 → n ≡ cond p 1 0 → Noted w row hs ls (s + 1) (t + n)

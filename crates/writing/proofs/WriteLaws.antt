@@ -24,8 +24,10 @@ session_few_kept out a b ca cb o h r = sym (framed_few out (Session a b ca cb o)
 
 pub session_long : (out : List ℕ) (a b ca cb o : ℕ) → o ≤ 3 → 27 ≤ length out → frame_reply out (Session a b ca cb o) ≡ Length 27
 session_long out a b ca cb o h r =
-    sym (framed_full out (place 0 (frame (Session a b ca cb o)) out) (Session a b ca cb o) 27 (within_three a b ca cb o h) (length_session a b ca cb o) r refl).0
+    sym (framed_full out (place 0 (frame (Session a b ca cb o)) out) (Session a b ca cb o) 27 (within_three a b ca cb o h)
+    (length_session a b ca cb o) r refl).0
 
 pub session_put : (out : List ℕ) (a b ca cb o : ℕ) → o ≤ 3 → 27 ≤ length out → frame_after out (Session a b ca cb o) ≡ place 0 (frame (Session a b ca cb o)) out
 session_put out a b ca cb o h r =
-    sym (framed_full out (place 0 (frame (Session a b ca cb o)) out) (Session a b ca cb o) 27 (within_three a b ca cb o h) (length_session a b ca cb o) r refl).1
+    sym (framed_full out (place 0 (frame (Session a b ca cb o)) out) (Session a b ca cb o) 27 (within_three a b ca cb o h)
+    (length_session a b ca cb o) r refl).1

@@ -1,7 +1,7 @@
 -- `arrivals::newer_count` meets its contract: the invariant says that `k` counts the newer records of the rows passed.
 use mathlib.Core.Path.{◌≡◌, ap, sym, ◌∙◌}
 use mathlib.Core.List.{List, [], ◌∷◌}
-use Prim.Native.Nat.{ℕ, ◌+◌, ◌-◌, ◌≤◌}
+use Prim.Native.Nat.{ℕ, ◌+◌, ◌≤◌}
 use native.Mathlib.Omega.{arith}
 use lib.ListN.{length, length-append}
 use Rattle.meaning.specs.declared.Record.{Record}

@@ -1,15 +1,8 @@
 -- `arrivals::newer_count` meets its contract: the invariant says that `k` counts the newer records of the rows passed.
-use mathlib.Core.Path.{◌≡◌, ap, sym, ◌∙◌}
-use mathlib.Core.List.{List, [], ◌∷◌}
-use Prim.Native.Nat.{ℕ, ◌+◌, ◌-◌, ◌≤◌}
-use native.Mathlib.Omega.{arith}
-use lib.ListN.{length, length-append}
-use Rattle.meaning.specs.declared.Record.{Record}
-use Rattle.meaning.specs.Rows.{newer, records, record_at}
-use Rattle.meaning.specs.Table.{record_sound}
-use Rattle.meaning.proofs.RowLaws.{newer-row, all_row, length-newer, length-records}
-use Rattle.meaning.proofs.TableLaws.{origin_below}
-use borrow.Author.Rules.{rules}
+use mathlib.Core.Path.{◌≡◌}
+use Prim.Native.Nat.{◌-◌, ◌≤◌}
+use lib.ListN.{length}
+use Rattle.meaning.specs.Rows.{newer, records}
 use Rattle.arrivals.proofs.newer_count.Given as goal
 
 abbrev pub invariant-loop-i : goal.invariant-loop-i

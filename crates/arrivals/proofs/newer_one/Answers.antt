@@ -6,7 +6,6 @@ use Prim.Native.Nat.{ℕ}
 use lib.ListN.{length}
 use Rattle.meaning.specs.declared.Record.{Record}
 use Rattle.meaning.specs.Rows.{covers, newer, keep, keep_if}
-use borrow.Author.Rules.{rules}
 use Rattle.arrivals.proofs.newer_one.Goals as goal
 
 one_if : (s : List ℕ) (r : Record) (b : Bool) → not (covers s r) ≡ b → length (newer s (r ∷ [])) ≡ length (keep_if b r [])

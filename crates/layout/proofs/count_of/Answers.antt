@@ -1,5 +1,4 @@
 -- `layout::count_of`: the word read is the definition's, by computation.
-use borrow.Author.Rules.{rules}
 use mathlib.Core.Path.{refl}
 use Rattle.meaning.specs.Table.{count}
 use Rattle.layout.proofs.count_of.Goals as goal

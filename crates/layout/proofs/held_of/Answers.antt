@@ -1,5 +1,4 @@
 -- `layout::held_of`: the place that `held_at` gives is the definition's.
-use borrow.Author.Rules.{rules}
 use mathlib.Core.Path.{ap}
 use lib.ListN.{get_or}
 use Rattle.meaning.specs.Table.{held}

@@ -1,7 +1,6 @@
 -- `layout::summary_at`: one place for each form.
 use mathlib.Core.Path.{◌∙◌}
 use native.Mathlib.Omega.{arith}
-use borrow.Author.Rules.{rules}
 use Rattle.meaning.specs.Table.{form_of}
 use Rattle.layout.proofs.FormLaws.{columns_long, summary_columns, summary_vectors}
 use Rattle.layout.proofs.summary_at.Goals as goal

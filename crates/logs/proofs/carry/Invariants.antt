@@ -17,7 +17,8 @@ abbrev pub carried_to : List ℕ → ℕ → ℕ → ℕ → List ℕ → List �
 carried_to s from to i t = place to (words (sent s from i t)) t
 
 abbrev pub invariant-loop-i : goal.invariant-loop-i
-invariant-loop-i l = (l.i ≤ l.held) × (length l.t ≡ length l.initial.t) × (l.k ≡ length (sent l.summary l.from l.i l.initial.t)) × (l.t ≡ carried_to l.summary l.from l.to l.i l.initial.t)
+invariant-loop-i l = (l.i ≤ l.held) × (length l.t ≡ length l.initial.t) × (l.k ≡ length (sent l.summary l.from l.i l.initial.t)) ×
+    (l.t ≡ carried_to l.summary l.from l.to l.i l.initial.t)
 
 abbrev pub decreases-loop-i : goal.decreases-loop-i
 decreases-loop-i l = l.held - l.i

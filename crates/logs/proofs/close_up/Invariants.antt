@@ -16,7 +16,8 @@ abbrev pub closed : (Record → Bool) → ℕ → List ℕ → List ℕ
 closed leaves i w = place 0 (words (stay leaves (records i w))) w
 
 abbrev pub invariant-loop-i : goal.invariant-loop-i
-invariant-loop-i l = (0 < l.i) × (l.i ≤ l.rows) × (length l.tail ≡ length l.initial.tail) × (l.k ≡ length (stay (goes l.barred l.bars l.limit) (records l.i l.initial.tail))) ×
+invariant-loop-i l = (0 < l.i) × (l.i ≤ l.rows) × (length l.tail ≡ length l.initial.tail) ×
+    (l.k ≡ length (stay (goes l.barred l.bars l.limit) (records l.i l.initial.tail))) ×
     (l.tail ≡ closed (goes l.barred l.bars l.limit) l.i l.initial.tail)
 
 abbrev pub decreases-loop-i : goal.decreases-loop-i

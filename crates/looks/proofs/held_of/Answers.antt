@@ -3,7 +3,6 @@ use Prim.Native.Nat.{◌≤◌}
 use native.Mathlib.Omega.{arith}
 use mathlib.Core.Path.{◌≡◌}
 use Rattle.meaning.specs.Table.{held, log_most}
-use borrow.Author.Rules.{rules}
 use Rattle.looks.proofs.held_of.Goals as goal
 
 pub returns : goal.returns

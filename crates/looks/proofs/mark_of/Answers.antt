@@ -4,7 +4,6 @@ use Prim.Native.Nat.{ℕ}
 use mathlib.Core.List.{List}
 use lib.ListN.{get_or}
 use Rattle.meaning.specs.Table.{form_of, mark_at, mark}
-use borrow.Author.Rules.{rules}
 use Rattle.looks.proofs.mark_of.Goals as goal
 
 word : (t : List ℕ) (p at : ℕ) → at ≡ mark_at (form_of t) p → get_or t at 0 ≡ mark t p

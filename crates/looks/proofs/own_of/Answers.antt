@@ -7,7 +7,6 @@ use lib.ListN.{get_or}
 use Rattle.meaning.specs.Table.{form_of, count, node, summary_at}
 use Rattle.meaning.specs.Node.{own}
 use Rattle.meaning.proofs.PlaceLaws.{get_d_part}
-use borrow.Author.Rules.{rules}
 use Rattle.looks.proofs.own_of.Goals as goal
 
 entry : (t : List ℕ) (p at : ℕ) → p < count t → at ≡ summary_at (form_of t) p → get_or t (at + p) 0 ≡ own p (node t p)

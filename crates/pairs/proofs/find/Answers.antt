@@ -1,10 +1,9 @@
 -- `pairs::find`. The invariant: where the search from here ends, the search from the beginning ends. Each link leads to a later record.
 use mathlib.Core.Path.{refl, sym, ◌∙◌}
-use Prim.Native.Nat.{ℕ, ◌-◌, ◌*◌, ◌≤◌}
+use Prim.Native.Nat.{◌-◌}
 use native.Mathlib.Omega.{arith}
-use lib.ListN.{length}
-use Rattle.pairs.specs.Chains.{Seeks, a_pair, ends, goes}
-use Rattle.pairs.proofs.ChainLaws.{ahead, ahead_less, on_some, link_within}
+use Rattle.pairs.specs.Chains.{a_pair, ends, goes}
+use Rattle.pairs.proofs.ChainLaws.{ahead_less, on_some, link_within}
 use Rattle.pairs.proofs.find.Goals as goal
 
 pub loop-k-init : goal.loop-k-init

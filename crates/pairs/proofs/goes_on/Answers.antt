@@ -1,5 +1,4 @@
 -- `pairs::goes_on`: there is no record, or the answer for the one there is.
-use borrow.Author.Rules.{rules}
 use mathlib.Core.Path.{◌≡◌}
 use mathlib.Core.Bool.{false}
 use mathlib.Core.List.{List}

@@ -1,5 +1,4 @@
 -- `pairs::other_pair`: the origins differ, or the blocks answer.
-use borrow.Author.Rules.{rules}
 use mathlib.Core.Path.{◌≡◌, ap}
 use mathlib.Core.Bool.{true, not}
 use mathlib.Core.List.{List}

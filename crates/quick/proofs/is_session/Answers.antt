@@ -27,7 +27,8 @@ returns-then-not-is_outcome c =
     let not_so = sym c.is_outcome.ensures ∙ c.if-not-is_outcome.true in
     sym (accepted_not s (λ g.
     let within = (good_session s c.requires g).2 in
-    let so : is_outcome (get_or s 22 0) (get_or s 23 0) ≡ true = outcome_chars (get_or s 22 0) (get_or s 23 0) (omega (arith, outcome_is s c.requires, within)) in
+    let so : is_outcome (get_or s 22 0) (get_or s 23 0) ≡ true =
+    outcome_chars (get_or s 22 0) (get_or s 23 0) (omega (arith, outcome_is s c.requires, within)) in
     true≢false (sym so ∙ not_so)))
 
 pub returns : goal.returns

@@ -2,7 +2,6 @@
 use lib.ListN.{get_or}
 use Rattle.meaning.specs.Rows.{covers}
 use Rattle.meaning.proofs.RowLaws.{ltb_not_leb}
-use borrow.Author.Rules.{rules}
 use Rattle.records.proofs.is_newer.Goals as goal
 
 pub returns : goal.returns

@@ -7,7 +7,6 @@ use lib.ListN.{length}
 use Rattle.meaning.specs.Rows.{words}
 use Rattle.meaning.proofs.PlaceLaws.{mid_place}
 use Rattle.meaning.proofs.RowLaws.{length-words}
-use borrow.Author.Rules.{rules}
 use Rattle.records.proofs.put_record.Goals as goal
 
 pub returns : goal.returns

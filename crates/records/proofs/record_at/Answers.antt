@@ -1,7 +1,6 @@
 -- `logs::record_at` meets its contract.
 use mathlib.Core.Path.{refl}
 use Rattle.meaning.specs.Rows.{record_at}
-use borrow.Author.Rules.{rules}
 use Rattle.records.proofs.record_at.Goals as goal
 
 pub returns : goal.returns

@@ -7,7 +7,8 @@ use Rattle.meaning.specs.Table.{place}
 use Rattle.rows.proofs.fill_raised.Given as goal
 
 abbrev pub invariant-loop-i : goal.invariant-loop-i
-invariant-loop-i l = (l.i ≤ length l.initial.row) × (length l.row ≡ length l.initial.row) × (l.row ≡ place 0 (raise (take l.i l.mine) (take l.i l.theirs)) l.initial.row)
+invariant-loop-i l = (l.i ≤ length l.initial.row) × (length l.row ≡ length l.initial.row) ×
+    (l.row ≡ place 0 (raise (take l.i l.mine) (take l.i l.theirs)) l.initial.row)
 
 abbrev pub decreases-loop-i : goal.decreases-loop-i
 decreases-loop-i l = length l.initial.row - l.i

@@ -2,7 +2,6 @@
 use mathlib.Core.Path.{◌∙◌}
 use native.Mathlib.Omega.{arith}
 use Rattle.run.proofs.Running.{made_fresh_lem, right_sound, steps_within, ran_done, ran_bad}
-use borrow.Author.Rules.{rules}
 use Rattle.run.proofs.from_start.Goals as goal
 
 pub apply_from-came-requires : goal.apply_from-came-requires

@@ -1,6 +1,5 @@
 -- `replay` goes by the three tests of the definition.
 use Rattle.run.proofs.Telling.{replay_none, replay_short, replay_long, replay_right}
-use borrow.Author.Rules.{rules}
 use Rattle.run.proofs.replay.Goals as goal
 
 pub returns-then-t-ne-TABLE_WORDS : goal.returns-then-t-ne-TABLE_WORDS

@@ -1,12 +1,11 @@
 -- `run` goes by the table's length and by what the journal begins with.
-use mathlib.Core.Path.{sym, ◌∙◌}
+use mathlib.Core.Path.{sym}
 use mathlib.Core.Bool.{true}
 use native.Mathlib.Omega.{arith}
 use Rattle.meaning.proofs.JournalLaws.{refused_numbered}
 use Rattle.meaning.proofs.AccountJournals.{begin_right}
 use Rattle.journal.proofs.Passing.{begun}
 use Rattle.run.proofs.Running.{run_wrong, run-begun, run-broken, act_is, refused_is, end_is}
-use borrow.Author.Rules.{rules}
 use Rattle.run.proofs.run.Goals as goal
 
 pub returns-then-t-ne-TABLE_WORDS : goal.returns-then-t-ne-TABLE_WORDS

@@ -1,7 +1,6 @@
 -- `told`: the table that a run leaves has the words to print.
 use mathlib.Core.Path.{◌∙◌}
 use Rattle.run.proofs.Telling.{told_text}
-use borrow.Author.Rules.{rules}
 use Rattle.run.proofs.told.Goals as goal
 
 pub returns : goal.returns

@@ -8,7 +8,6 @@ use Rattle.meaning.specs.Rows.{words}
 use Rattle.meaning.specs.Table.{form_of, count, held, node, place, put_node, summary_at, held_at, log_at, log_most, Sound}
 use Rattle.meaning.specs.Node.{wrote}
 use Rattle.meaning.proofs.PutLaws.{write_put}
-use borrow.Author.Rules.{rules}
 use Rattle.writes.proofs.append.Goals as goal
 
 whole :
@@ -26,7 +25,8 @@ whole t s p h k r at₁ at₂ at₃ u v w ek below eo e₁ e₂ e₃ eu ev ew =
     ew ∙ ap₂ (λ (a : ℕ) (x : List ℕ). place (a + p) (r.timestamp ∷ []) x) e₃
     (ev ∙ ap₂ (λ (a m : ℕ). place a ((m + 1) ∷ []) u) e₂ ek ∙
     ap (place (held_at (form_of t) p) ((held t p + 1) ∷ []))
-    (eu ∙ ap₂ (λ (a m : ℕ). place (a + 4 * m) (words (r ∷ [])) t) e₁ ek ∙ ap (λ (x : Record). place (log_at (form_of t) p + 4 * held t p) (words (x ∷ [])) t) r'))
+    (eu ∙ ap₂ (λ (a m : ℕ). place (a + 4 * m) (words (r ∷ [])) t) e₁ ek ∙
+        ap (λ (x : Record). place (log_at (form_of t) p + 4 * held t p) (words (x ∷ [])) t) r'))
     in
     f ∙ write_put t s p h r.timestamp r.block r.verdict (omega arith)
 

@@ -11,7 +11,6 @@ use Rattle.meaning.specs.Steps.{acted, reported}
 use Rattle.meaning.proofs.TableLaws.{held_log_lem}
 use Rattle.meaning.proofs.StepLaws.{write_is_3, write_is_5, write_is_6, write_is_0, refuse, accept}
 use Rattle.looks.specs.Applied.{Applied}
-use borrow.Author.Rules.{rules}
 use Rattle.writes.proofs.write.Goals as goal
 
 module _ (t : List ℕ) (s : Sound t) (p c b v : ℕ) where

@@ -1,5 +1,4 @@
 -- `all` comes to the end: each case ends at or behind its place.
-use borrow.Author.Rules.{rules}
 use mathlib.Core.Path.{◌≡◌}
 use Prim.Native.Nat.{◌-◌, ◌+◌}
 use lib.ListN.{length}

@@ -1,5 +1,4 @@
 -- `until` looks at each byte once, up to the end.
-use borrow.Author.Rules.{rules}
 use Prim.Native.Nat.{◌-◌, ◌≤◌}
 use lib.ListN.{length}
 use Rattle.edges.proofs.cases.until.Given as goal

@@ -1,5 +1,4 @@
 -- `digest` passes each word once.
-use borrow.Author.Rules.{rules}
 use Prim.Native.Nat.{◌-◌}
 use lib.ListN.{length}
 use Rattle.edges.proofs.say.digest.Given as goal

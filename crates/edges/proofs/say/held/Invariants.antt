@@ -1,6 +1,5 @@
 -- `held` asks only for nodes that a table has.
 use Prim.Native.Nat.{◌-◌, ◌≤◌}
-use borrow.Author.Rules.{rules}
 use Rattle.edges.proofs.say.held.Given as goal
 
 abbrev pub invariant-loop-p : goal.invariant-loop-p

@@ -1,6 +1,5 @@
 -- `held_by`: where the length is a table's, the held number may be read.
 use mathlib.Core.Path.{sym, ◌∙◌}
-use borrow.Author.Rules.{rules}
 use borrow.Author.Tests.{eqb-true}
 use native.Mathlib.Omega.{arith}
 use Rattle.edges.proofs.say.held_by.Goals as goal

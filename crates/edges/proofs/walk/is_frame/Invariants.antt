@@ -1,7 +1,6 @@
 -- `is_frame` compares the part byte by byte; the bytes are longer than it.
 use Prim.Native.Nat.{◌-◌, ◌≤◌, ◌<◌}
 use lib.ListN.{length}
-use borrow.Author.Rules.{rules}
 use Rattle.edges.proofs.walk.is_frame.Given as goal
 
 abbrev pub invariant-loop-i : goal.invariant-loop-i

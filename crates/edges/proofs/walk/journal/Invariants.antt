@@ -1,6 +1,5 @@
 -- `journal` reads ten lines at most.
 use Prim.Native.Nat.{◌-◌, ◌≤◌}
-use borrow.Author.Rules.{rules}
 use Rattle.edges.proofs.walk.journal.Given as goal
 
 abbrev pub invariant-loop-line : goal.invariant-loop-line

@@ -1,7 +1,6 @@
 -- `pollencart_apply_line` meets its contract: the values of the line's answer, and the words that it leaves.
 use mathlib.Core.Path.{refl}
 use Rattle.answers.proofs.ValueLaws.{line_told}
-use borrow.Author.Rules.{rules}
 use Rattle.pollencart.proofs.applies.pollencart_apply_line.Goals as goal
 
 pub returns : goal.returns

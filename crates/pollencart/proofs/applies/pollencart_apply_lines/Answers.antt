@@ -1,7 +1,6 @@
 -- `pollencart_apply_lines` meets its contract: the values of how far the lines came, and the words that they leave.
 use mathlib.Core.Path.{ap}
 use Rattle.meaning.specs.Lines.{progress_values}
-use borrow.Author.Rules.{rules}
 use Rattle.pollencart.proofs.applies.pollencart_apply_lines.Goals as goal
 
 pub returns : goal.returns

@@ -1,5 +1,4 @@
 -- `pollencart_count`: what is stored and returned are the values of the answer.
-use borrow.Author.Rules.{rules}
 use mathlib.Core.Path.{ap, ◌∙◌}
 use Rattle.meaning.specs.Verdicts.{count_values}
 use Rattle.pollencart.proofs.counts.pollencart_count.Goals as goal

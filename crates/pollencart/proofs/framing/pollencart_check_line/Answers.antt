@@ -1,7 +1,6 @@
 -- `pollencart_check_line` meets its contract: what the check answers, handed on.
 use mathlib.Core.Path.{ap, ◌∙◌}
 use Rattle.answers.specs.Told.{fault_values}
-use borrow.Author.Rules.{rules}
 use Rattle.pollencart.proofs.framing.pollencart_check_line.Goals as goal
 
 pub returns : goal.returns

@@ -3,7 +3,6 @@ use mathlib.Core.Path.{ap, ◌∙◌}
 use Rattle.meaning.specs.Frames.{framed_values}
 use Rattle.meaning.proofs.FrameLaws.{value_length}
 use Rattle.answers.proofs.ValueLaws.{short}
-use borrow.Author.Rules.{rules}
 use Rattle.pollencart.proofs.framing.pollencart_frame_purge.Goals as goal
 
 pub report-requires : goal.report-requires

@@ -1,7 +1,6 @@
 -- `pollencart_deliver` meets its contract: the reply's values, and the words of the table and the list that the delivery leaves.
 use mathlib.Core.Path.{refl}
 use Rattle.answers.proofs.ValueLaws.{told}
-use borrow.Author.Rules.{rules}
 use Rattle.pollencart.proofs.tables.pollencart_deliver.Goals as goal
 
 pub returns : goal.returns

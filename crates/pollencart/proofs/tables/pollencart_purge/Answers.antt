@@ -1,6 +1,5 @@
 -- `pollencart_purge` meets its contract: the reply's values, and the words that the step leaves.
 use Rattle.answers.proofs.ValueLaws.{told}
-use borrow.Author.Rules.{rules}
 use Rattle.pollencart.proofs.tables.pollencart_purge.Goals as goal
 
 pub returns : goal.returns

@@ -1,7 +1,6 @@
 -- `pollencart_write` meets its contract: the reply's number, and the words that the step leaves.
 use mathlib.Core.Path.{refl}
 use Rattle.answers.proofs.ValueLaws.{told}
-use borrow.Author.Rules.{rules}
 use Rattle.pollencart.proofs.tables.pollencart_write.Goals as goal
 
 pub returns : goal.returns
