@@ -2,7 +2,7 @@
 use mathlib.Core.Path.{sym, ◌∙◌}
 use Rattle.meaning.proofs.OneReply.{OneResult}
 use Rattle.heads.proofs.short_line.Kinds as short_line_kinds
-use Rattle.heads.proofs.short_line.Reads as short_line_lem
+use Rattle.heads.proofs.short_line.Reads as short_line
 
-pub one_short_line : OneResult 0 short_line_kinds.ps short_line_kinds.r short_line_lem.Post
+pub one_short_line : OneResult 0 short_line_kinds.ps short_line_kinds.r short_line.Post
 one_short_line κs a x y s s' p q = p ∙ sym q

@@ -5,12 +5,12 @@ use Prim.Native.Nat.{ℕ}
 use Rattle.meaning.specs.declared.Progress.{Progress}
 use Rattle.meaning.proofs.OneReply.{OneReply}
 use Rattle.lines.proofs.apply_lines.Kinds as apply_lines_kinds
-use Rattle.lines.proofs.apply_lines.Reads as apply_lines_lem
+use Rattle.lines.proofs.apply_lines.Reads as apply_lines
 use Rattle.lines.proofs.apply_from.Kinds as apply_from_kinds
-use Rattle.lines.proofs.apply_from.Reads as apply_from_lem
+use Rattle.lines.proofs.apply_from.Reads as apply_from
 
-pub one_lines : OneReply 2 apply_lines_kinds.ps apply_lines_kinds.r apply_lines_lem.Post {R = Progress × List ℕ} (λ κs x s. (x, s.0.now))
+pub one_lines : OneReply 2 apply_lines_kinds.ps apply_lines_kinds.r apply_lines.Post {R = Progress × List ℕ} (λ κs x s. (x, s.0.now))
 one_lines κs a x y s s' p q = ap₂ (λ (r : Progress) (t : List ℕ). (r, t)) (p.0 ∙ sym q.0) (p.1 ∙ sym q.1)
 
-pub one_from : OneReply 2 apply_from_kinds.ps apply_from_kinds.r apply_from_lem.Post {R = Progress × List ℕ} (λ κs x s. (x, s.1.1.1.0.now))
+pub one_from : OneReply 2 apply_from_kinds.ps apply_from_kinds.r apply_from.Post {R = Progress × List ℕ} (λ κs x s. (x, s.1.1.1.0.now))
 one_from κs a x y s s' p q = ap₂ (λ (r : Progress) (t : List ℕ). (r, t)) (p.answer ∙ sym q.answer) (p.table ∙ sym q.table)

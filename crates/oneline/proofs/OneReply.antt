@@ -5,7 +5,7 @@ use Prim.Native.Nat.{ℕ}
 use Rattle.meaning.specs.declared.Answer.{Answer}
 use Rattle.meaning.proofs.OneReply.{OneReply}
 use Rattle.oneline.proofs.apply_line.Kinds as apply_line_kinds
-use Rattle.oneline.proofs.apply_line.Reads as apply_line_lem
+use Rattle.oneline.proofs.apply_line.Reads as apply_line
 
-pub one_line : OneReply 2 apply_line_kinds.ps apply_line_kinds.r apply_line_lem.Post {R = Answer × List ℕ} (λ κs x s. (x, s.0.now))
+pub one_line : OneReply 2 apply_line_kinds.ps apply_line_kinds.r apply_line.Post {R = Answer × List ℕ} (λ κs x s. (x, s.0.now))
 one_line κs a x y s s' p q = ap₂ (λ (r : Answer) (t : List ℕ). (r, t)) (p.0 ∙ sym q.0) (p.1 ∙ sym q.1)

@@ -27,19 +27,19 @@ use Rattle.reader.specs.contracts.next as next
 use Rattle.reader.specs.contracts.part as part
 use Rattle.reader.specs.contracts.moved as moved
 use Rattle.reader.proofs.next_from.Kinds as next_from_kinds
-use Rattle.reader.proofs.next_from.Reads as next_from_lem
+use Rattle.reader.proofs.next_from.Reads as next_from
 use Rattle.reader.proofs.part_from.Kinds as part_from_kinds
-use Rattle.reader.proofs.part_from.Reads as part_from_lem
+use Rattle.reader.proofs.part_from.Reads as part_from
 use Rattle.reader.proofs.place_from.Kinds as place_from_kinds
-use Rattle.reader.proofs.place_from.Reads as place_from_lem
+use Rattle.reader.proofs.place_from.Reads as place_from
 
-pub one_next_from : OneResult 1 next_from_kinds.ps next_from_kinds.r next_from_lem.Post
+pub one_next_from : OneResult 1 next_from_kinds.ps next_from_kinds.r next_from.Post
 one_next_from κs a x y s s' p q = p ∙ sym q
 
-pub one_part_from : OneReply 1 part_from_kinds.ps part_from_kinds.r part_from_lem.Post (λ κs x s. seen x)
+pub one_part_from : OneReply 1 part_from_kinds.ps part_from_kinds.r part_from.Post (λ κs x s. seen x)
 one_part_from κs a x y s s' p q = one_part p q
 
-pub one_place_from : OneResult 1 place_from_kinds.ps place_from_kinds.r place_from_lem.Post
+pub one_place_from : OneResult 1 place_from_kinds.ps place_from_kinds.r place_from.Post
 one_place_from κs a x y s s' p q = p ∙ sym q
 
 -- A contract over a `Reader` has no generated reading of this form. What it says is written out here instead, and the equations hold it to the

@@ -8,7 +8,7 @@ use Rattle.reading.proofs.kind.Reads as kind
 use Rattle.reading.proofs.field.Kinds as field_kinds
 use Rattle.reading.proofs.field.Reads as field
 use Rattle.reading.proofs.read_line.Kinds as read_line_kinds
-use Rattle.reading.proofs.read_line.Reads as read_line_lem
+use Rattle.reading.proofs.read_line.Reads as read_line
 
 pub one_check : OneResult 1 check_kinds.ps check_kinds.r check.Post
 one_check κs a x y s s' p q = p ∙ sym q
@@ -19,5 +19,5 @@ one_kind κs a x y s s' p q = p ∙ sym q
 pub one_field : OneResult 1 field_kinds.ps field_kinds.r field.Post
 one_field κs a x y s s' p q = p ∙ sym q
 
-pub one_line : OneResult 1 read_line_kinds.ps read_line_kinds.r read_line_lem.Post
+pub one_line : OneResult 1 read_line_kinds.ps read_line_kinds.r read_line.Post
 one_line κs a x y s s' p q = p ∙ sym q

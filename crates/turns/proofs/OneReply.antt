@@ -4,11 +4,11 @@ use mathlib.Core.List.{List}
 use Prim.Native.Nat.{ℕ}
 use Rattle.meaning.proofs.OneReply.{OneReply, OneResult}
 use Rattle.turns.proofs.due_at.Kinds as due_at_kinds
-use Rattle.turns.proofs.due_at.Reads as due_at_lem
+use Rattle.turns.proofs.due_at.Reads as due_at
 use Rattle.turns.proofs.turn.Kinds as turn_kinds
 use Rattle.turns.proofs.turn.Reads as turn
 
-pub one_due : OneResult 1 due_at_kinds.ps due_at_kinds.r due_at_lem.Post
+pub one_due : OneResult 1 due_at_kinds.ps due_at_kinds.r due_at.Post
 one_due κs a x y s s' p q = p ∙ sym q
 
 pub one_turn : OneReply 2 turn_kinds.ps turn_kinds.r turn.Post {R = ℕ × List ℕ} (λ κs x s. (x, s.1.1.1.0.now))

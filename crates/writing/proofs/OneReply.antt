@@ -15,7 +15,7 @@ use Rattle.writing.proofs.write.purge.Reads as purge
 use Rattle.writing.proofs.write.deliver.Kinds as deliver_kinds
 use Rattle.writing.proofs.write.deliver.Reads as deliver
 use Rattle.writing.proofs.write_start.Kinds as write_start_kinds
-use Rattle.writing.proofs.write_start.Reads as write_start_lem
+use Rattle.writing.proofs.write_start.Reads as write_start
 
 -- an answer and the bytes at exit
 abbrev Written : Type 0
@@ -39,5 +39,5 @@ one_purge_frame κs a x y s s' p q = same p q
 pub one_delivery_frame : OneReply 1 deliver_kinds.ps deliver_kinds.r deliver.Post {R = Written} (λ κs x s. (x, s.0.now))
 one_delivery_frame κs a x y s s' p q = same p q
 
-pub one_start_frame : OneReply 1 write_start_kinds.ps write_start_kinds.r write_start_lem.Post {R = Written} (λ κs x s. (x, s.0.now))
+pub one_start_frame : OneReply 1 write_start_kinds.ps write_start_kinds.r write_start.Post {R = Written} (λ κs x s. (x, s.0.now))
 one_start_frame κs a x y s s' p q = same p q
