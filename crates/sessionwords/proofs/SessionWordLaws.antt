@@ -38,6 +38,8 @@ module _ (l : List ℕ) (long : length l ≡ 26) where
   pub session_sum : (sum_of (take 24 (drop 2 l)) ≡ 254 → ⊥) → accepted l ≡ false
   session_sum h = accepted_not l (λ g. h (ap sum_of (rest_part l long) ∙ sym (good_session l long g).3))
 
+pub ruleset session_lacks = (session_first, session_second, session_sum)
+
 -- a session's outcome decides what is put
 pub met_within : (v w w' : List ℕ) (o : ℕ) → o ≡ joined_at v 20 1 → o ≤ 3 → w' ≡ session_words v
     → (true ≡ leb (joined_at v 20 1) 3) × (w' ≡ met_words v w)

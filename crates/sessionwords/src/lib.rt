@@ -32,7 +32,7 @@ fn put_met(v: &[u8], words: &mut [u32]) -> bool
 }
 
 // 26 characters: a session's, or none. The sum is of the last 24, and lacks the kind's 2.
-#[tactic(auto, using(crate::proofs::SessionWordLaws::session_first, crate::proofs::SessionWordLaws::session_second, crate::proofs::SessionWordLaws::session_sum))]
+#[tactic(auto, using(crate::proofs::SessionWordLaws::session_lacks))]
 pub fn put_session(s: &[u8], words: &mut [u32]) -> bool
     requires { (length s.now ≡ 26) × (length words.old ≡ 6) }
     ensures { Puts s.now words.old result words.new }

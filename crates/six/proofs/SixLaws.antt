@@ -55,6 +55,8 @@ module _ (l : List ℕ) (long : length l ≡ 24) where
   pub write_sum : (sum_of l ≡ 0 → ⊥) → accepted l ≡ false
   write_sum h = accepted_not l (λ g. h (sym (good_write l long g).2))
 
+pub ruleset write_lacks = (write_first, write_second, write_sum)
+
 -- digits' numbers that may be joined: those of a line whose sum is known
 pub joins_12 : (l v : List ℕ) (sum : ℕ) → length l ≡ 24 → sum ≡ sum_of l → sum < 256 → v ≡ values_of l → Joins v 0 12
 joins_12 l v sum long e h f =

@@ -39,7 +39,7 @@ fn put_written(v: &[u8], words: &mut [u32])
 }
 
 // 24 characters: a write's, or none.
-#[tactic(auto, using(crate::proofs::SixLaws::write_first, crate::proofs::SixLaws::write_second, crate::proofs::SixLaws::write_sum))]
+#[tactic(auto, using(crate::proofs::SixLaws::write_lacks))]
 pub fn put_write(s: &[u8], words: &mut [u32]) -> bool
     requires { (length s.now ≡ 24) × (length words.old ≡ 6) }
     ensures { Puts s.now words.old result words.new }

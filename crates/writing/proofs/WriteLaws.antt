@@ -31,3 +31,6 @@ pub session_put : (out : List ℕ) (a b ca cb o : ℕ) → o ≤ 3 → 27 ≤ le
 session_put out a b ca cb o h r =
     sym (framed_full out (place 0 (frame (Session a b ca cb o)) out) (Session a b ca cb o) 27 (within_three a b ca cb o h)
     (length_session a b ca cb o) r refl).1
+
+-- all of them
+pub ruleset session_rules = (session_outcome, session_outcome_kept, session_few, session_few_kept, session_long, session_put)

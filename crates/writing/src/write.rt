@@ -19,7 +19,7 @@ pub fn write(out: &mut [u8], node: u8, timestamp: u32, block: u32, verdict: u8) 
 }
 
 // A session's frame into lent bytes: 2 for an outcome above 3, then 17 where they are too few.
-#[tactic(auto, using(crate::proofs::WriteLaws::session_outcome, crate::proofs::WriteLaws::session_outcome_kept, crate::proofs::WriteLaws::session_few, crate::proofs::WriteLaws::session_few_kept, crate::proofs::WriteLaws::session_long, crate::proofs::WriteLaws::session_put))]
+#[tactic(auto, using(crate::proofs::WriteLaws::session_rules))]
 pub fn session(out: &mut [u8], a: u8, b: u8, ca: u32, cb: u32, outcome: u8) -> Framed
     ensures { Wrote out.old (Session a b ca cb outcome) result out.new }
 {
