@@ -1,3 +1,4 @@
+pub mod ArmRules
 pub mod OneReply
 pub mod CountLaws
 pub mod NoteLaws

@@ -13,7 +13,7 @@ use pairs::{find, put_first, slot_of};
 
 // "00–0F not read; 10–1F answered from page cache; 20–2F read from platter, good; 30–3F read from platter, bad;
 // 40–4F repaired and read back; 50–FF reserved"
-#[tactic(auto, using(meaning::proofs::VerdictLaws::class_1, meaning::proofs::VerdictLaws::class_2, meaning::proofs::VerdictLaws::class_3, meaning::proofs::VerdictLaws::class_4, meaning::proofs::VerdictLaws::class_5, meaning::proofs::VerdictLaws::class_6))]
+#[tactic(auto, using(crate::proofs::ArmRules::classes))]
 pub fn class_of(v: u8) -> Class
     ensures { result ≡ class_of v }
 {
@@ -178,7 +178,7 @@ fn count_records(words: &[u32]) -> Count
 }
 
 // "Over a lent list of 0 to 64 records of four words (else, or with a verdict above 255, refusal 1 and zero counts)"
-#[tactic(auto, using(meaning::proofs::VerdictLaws::count_uneven, meaning::proofs::VerdictLaws::count_long))]
+#[tactic(auto, using(crate::proofs::ArmRules::lengths))]
 pub fn count(words: &[u32]) -> Count
     ensures { result ≡ verdict_count words.now }
 {
