@@ -57,12 +57,11 @@ overflow_add-k c =
     omega arith
 
 pub loop-i-preserved : goal.loop-i-preserved
-loop-i-preserved c =
-    (
-      omega arith,
-      more c.args.summary.now c.args.log.now c.loop-i.i c.loop-i.k c.newer_one-k.result
-          c.record_at.result c.loop-i.invariant.1 c.record_at.ensures c.newer_one-k.ensures,
-    )
+loop-i-preserved c = (
+  omega arith,
+  more c.args.summary.now c.args.log.now c.loop-i.i c.loop-i.k c.newer_one-k.result
+      c.record_at.result c.loop-i.invariant.1 c.record_at.ensures c.newer_one-k.ensures,
+)
 
 pub returns : goal.returns
 returns c =
