@@ -15,7 +15,7 @@ Stepped t x told u = (told ≡ take (length told) (reply_values (reply t x))) ×
 abbrev pub DeliveryTold : List ℕ → List ℕ → ℕ → List ℕ → List ℕ → List ℕ → Type 0
 DeliveryTold t list p told u out =
     (told ≡ take (length told) (reply_values (lent_reply t (length list) (Deliver p)))) × (u ≡ lent_after t (length list) (Deliver p)) ×
-        (out ≡ list_after t list p)
+    (out ≡ list_after t list p)
 
 -- of a line: the number, the counts and the place in the line; and the table at exit
 abbrev pub LineTold : List ℕ → List ℕ → List ℕ → List ℕ → Type 0

@@ -26,7 +26,7 @@ whole t s p h k r at₁ at₂ at₃ u v w ek below eo e₁ e₂ e₃ eu ev ew =
     (ev ∙ ap₂ (λ (a m : ℕ). place a ((m + 1) ∷ []) u) e₂ ek ∙
     ap (place (held_at (form_of t) p) ((held t p + 1) ∷ []))
     (eu ∙ ap₂ (λ (a m : ℕ). place (a + 4 * m) (words (r ∷ [])) t) e₁ ek ∙
-        ap (λ (x : Record). place (log_at (form_of t) p + 4 * held t p) (words (x ∷ [])) t) r'))
+    ap (λ (x : Record). place (log_at (form_of t) p + 4 * held t p) (words (x ∷ [])) t) r'))
     in
     f ∙ write_put t s p h r.timestamp r.block r.verdict (omega arith)
 
