@@ -23,13 +23,6 @@ bounds-links-k c =
     (sym c.goes_on.ensures ∙ c.loop-k-test.true) in
     omega (arith, c.requires.0.room, c.requires.0.rows, c.loop-k.invariant.0)
 
--- TODO cast_k : tie.Need-overflow-cast-k invariant_loop decreases_loop
--- cast_k c =
---     let at_loop = c.before.before.before in
---     let start = at_loop.before.before.before in
---     let low = link_within start.args.words.now start.args.links.now start.requires.0 (at_loop.loop.k - 1) in
---     omega (arith, start.requires.0.room)
-
 pub loop-k-smaller : goal.loop-k-smaller
 loop-k-smaller c =
     let k = c.loop-k.k in
