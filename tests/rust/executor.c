@@ -1,11 +1,11 @@
 /* Runs a list of calls of the C interface, given as words, and writes down every answer, every word
  * of the table after each step and every byte of each frame and text. It is the one place where the
  * tests meet the library. Each lent part ends where a page begins that nothing may touch, so that a
- * call that reads or writes beyond it is killed. It is a program of its own, so that it can be of
- * another kind of machine, under an emulator, and takes the calls from a shared file. */
+ * call that reads or writes beyond it is killed. It is a program of its own, so that a call
+ * that is killed ends it alone, and takes the calls from a shared file. */
 #include "pollencart.h"
 
-/* Declared here so that no C library headers are needed for the other machine. */
+/* Declared here, so that no header of the C library is needed. */
 void *mmap(void *, size_t, int, int, int, long);
 int mprotect(void *, size_t, int);
 int open(const char *, int, ...);
@@ -40,7 +40,7 @@ static uint8_t *lend(struct lent *part, const void *from, size_t size)
     return at;
 }
 
-/* Copies word by word where it can: the emulator is slow at the C library's own copying. */
+/* Copies word by word where it can. */
 static uint32_t *put(uint32_t *out, const void *from, size_t bytes)
 {
     const uint32_t *words = from;

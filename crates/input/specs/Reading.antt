@@ -1,5 +1,5 @@
--- What a read's answer makes of an input, and what an answer may claim of the lent bytes. The kit's contract for a read bounds its answer and says
--- nothing of the bytes that it stores, so nothing here says which they are.
+-- What a read's answer makes of an input, and what an answer may claim of the lent bytes. The contract of a read bounds its answer; which bytes a
+-- system's stream stores it does not say, so nothing here says which they are.
 use Rattle.std.specs.Prelude.{Bool, cond, ℕ, zero, suc, ◌+◌, ◌<◌, ltb, ℤ, pos, negsuc, ◌≡◌, Result, IsErr}
 use Rattle.std.specs.declared.io.Error.{Error}
 use Rattle.input.specs.declared.Input.{Input}

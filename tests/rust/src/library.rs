@@ -1,5 +1,4 @@
-//! The library under test: lists of calls, run by executor.c in another process, under an emulator
-//! where need be. The one place that knows how calls and answers are written down.
+//! The library under test: lists of calls, run by executor.c in another process. The one place that knows how calls and answers are written down.
 
 use crate::layout::COLUMN_WORDS;
 use crate::model::{Action, Frame};
