@@ -1,6 +1,6 @@
 -- `number` is `digits` with the definition's 20.
 use Rattle.meaning.specs.Journals.{decimal}
-use Rattle.printing.proofs.number.Goals as goal
+use Rattle.printing.proofs.Printer.number.Goals as goal
 
 pub returns : goal.returns
 unfolding decimal
