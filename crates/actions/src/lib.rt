@@ -1,11 +1,15 @@
-// The action that an accepted line holds. Inner functions: what they require, `reading` shows.
+// What an accepted line says. Inner functions: what they require, `reading` shows.
 #![tactic(auto)]
 
-ghost use Rattle.std.specs.Prelude.{◌≡◌, true, ◌<◌, length};
-ghost use Rattle.meaning.specs.Frames.{bytes_of, all_digits, line_fields, action_of};
+ghost use Rattle.std.specs.Prelude.{◌≡◌, true, length};
+ghost use Rattle.meaning.specs.declared.Said.TheVariants.{Act};
+ghost use Rattle.meaning.specs.Frames.{all_digits};
 ghost use Rattle.heads.specs.Heads.{Whole, write_at, session_at, purge_at, deliver_at};
+ghost use Rattle.heads.specs.Kinds.{kind_number};
+ghost use Rattle.actions.specs.Actions.{said_of};
 
-use meaning::Action;
+use heads::kinds::Kind;
+use meaning::{Action, Said, Step};
 use numbers::{byte, word};
 
 // The write that a line of 24 digits holds.
@@ -51,15 +55,26 @@ fn deliver_at(s: &[u8]) -> Action
     Action::Deliver { node: byte(s, 1) }
 }
 
-// The action of a line, by its kind.
-pub fn action(s: &[u8], kind: u8) -> Action
-    requires { Whole s.now kind × (0 < kind) }
-    ensures { result ≡ action_of kind (line_fields (bytes_of s.now)) }
+// The step of an action.
+fn act(line: usize, action: Action) -> Said
+    ensures { result ≡ Act (record { line = line; action = action }) }
+{
+    Said::Act {
+        step: Step { line, action },
+    }
+}
+
+// What a line says, by its kind: a start, or the step with the line number that is told.
+#[tactic(auto, using(crate::proofs::ActionLaws::lines))]
+pub fn said(s: &[u8], kind: Kind, line: usize) -> Said
+    requires { Whole s.now (kind_number kind) }
+    ensures { result ≡ said_of line s.now }
 {
     match kind {
-        1 => write_at(s),
-        2 => session_at(s),
-        5 => deliver_at(s),
-        _ => purge_at(s),
+        Kind::Start => Said::Begin { n: byte(s, 1) },
+        Kind::Write => act(line, write_at(s)),
+        Kind::Session => act(line, session_at(s)),
+        Kind::Purge => act(line, purge_at(s)),
+        Kind::Deliver => act(line, deliver_at(s)),
     }
 }

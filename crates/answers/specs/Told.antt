@@ -1,8 +1,8 @@
 -- What C is told: a reply's values as far as the call has words for them, and what it finds in the words or bytes that it lent.
-use Rattle.std.specs.Prelude.{◌≡◌, List, [], ◌∷◌, ℕ, length, take}
+use Rattle.std.specs.Prelude.{◌≡◌, List, ℕ, length, take}
 use Rattle.meaning.specs.declared.Action.{Action}
 use Rattle.meaning.specs.declared.Action.TheVariants.{Deliver}
-use Rattle.meaning.specs.declared.Fault.{Fault}
+use Rattle.meaning.specs.Refusals.{fault_values}
 use Rattle.meaning.specs.Steps.{reply, after, reply_values, lent_reply, lent_after, list_after}
 use Rattle.meaning.specs.Lines.{line_reply, line_after, answer_values, lines_reply, lines_after, progress_values}
 use Rattle.meaning.specs.Frames.{words_fault, words_after, framed_values, frame_reply, frame_after, start_reply, start_after}
@@ -33,10 +33,6 @@ Framed out x told bytes = (told ≡ framed_values (frame_reply out x)) × (bytes
 abbrev pub Started : List ℕ → ℕ → List ℕ → List ℕ → Type 0
 Started out n told bytes = (told ≡ framed_values (start_reply out n)) × (bytes ≡ start_after out n)
 
--- of a checked line: the number of its refusal and the place in it
-abbrev pub fault_values : Fault → List ℕ
-fault_values f = f.number ∷ f.place ∷ []
-
--- of a line read into lent words: the same; and the words at exit
+-- of a line read into lent words: the number of its refusal and the place in it; and the words at exit
 abbrev pub LineRead : List ℕ → List ℕ → List ℕ → List ℕ → Type 0
 LineRead l words told words' = (told ≡ fault_values (words_fault l words)) × (words' ≡ words_after l words)

@@ -5,20 +5,17 @@ ghost use Rattle.std.specs.Prelude.{◌≡◌, [], ◌∷◌, ◌≤◌, get_or}
 ghost use Rattle.meaning.specs.Steps.{reply_values};
 ghost use Rattle.meaning.specs.Verdicts.{count_values};
 ghost use Rattle.meaning.specs.Frames.{framed_values};
-ghost use Rattle.answers.specs.Told.{fault_values};
+ghost use Rattle.meaning.specs.Refusals.{fault_values};
 
-use meaning::{Count, Fault, Framed, Reply};
+use meaning::{Count, Fault, Framed, Reply, Report};
 
 // A reply's refusal number, 0 for none.
 pub fn number_of(answer: Reply) -> u32
     ensures { result ≡ get_or (reply_values answer) 0 0 }
 {
     match answer {
-        Reply::Written => 0,
-        Reply::Carried { .. } => 0,
-        Reply::Purged { .. } => 0,
-        Reply::Delivered { .. } => 0,
-        Reply::Refused { number } => number,
+        Ok(_) => 0,
+        Err(refusal) => refusal.into(),
     }
 }
 
@@ -27,11 +24,10 @@ pub fn first_of(answer: Reply) -> u32
     ensures { result ≡ get_or (reply_values answer) 1 0 }
 {
     match answer {
-        Reply::Written => 0,
-        Reply::Carried { a, .. } => a,
-        Reply::Purged { removed, .. } => removed,
-        Reply::Delivered { records } => records,
-        Reply::Refused { .. } => 0,
+        Ok(Report::Carried { a, .. }) => a,
+        Ok(Report::Purged { removed, .. }) => removed,
+        Ok(Report::Delivered { records }) => records,
+        Ok(Report::Written) | Err(_) => 0,
     }
 }
 
@@ -40,11 +36,9 @@ pub fn second_of(answer: Reply) -> u32
     ensures { result ≡ get_or (reply_values answer) 2 0 }
 {
     match answer {
-        Reply::Written => 0,
-        Reply::Carried { b, .. } => b,
-        Reply::Purged { lags, .. } => lags as u32,
-        Reply::Delivered { .. } => 0,
-        Reply::Refused { number: _ } => 0,
+        Ok(Report::Carried { b, .. }) => b,
+        Ok(Report::Purged { lags, .. }) => u32::from(lags),
+        Ok(Report::Written | Report::Delivered { .. }) | Err(_) => 0,
     }
 }
 
@@ -53,21 +47,17 @@ pub fn store(answer: Count, scrubbed: &mut u32, touched: &mut u32, gap: &mut u32
     ensures { (result ∷ scrubbed.new ∷ touched.new ∷ gap.new ∷ []) ≡ count_values answer }
 {
     match answer {
-        Count::Counted {
-            scrubbed: s,
-            touched: t,
-            gap: g,
-        } => {
-            *scrubbed = s;
-            *touched = t;
-            *gap = g;
+        Ok(tally) => {
+            *scrubbed = tally.scrubbed;
+            *touched = tally.touched;
+            *gap = tally.gap;
             0
         }
-        Count::Refused { number } => {
+        Err(refusal) => {
             *scrubbed = 0;
             *touched = 0;
             *gap = 0;
-            number
+            refusal.into()
         }
     }
 }
@@ -78,21 +68,29 @@ pub fn report(answer: Framed, length: &mut u32) -> u32
     ensures { (result ∷ length.new ∷ []) ≡ framed_values answer }
 {
     match answer {
-        Framed::Length { bytes } => {
+        Ok(bytes) => {
             *length = bytes as u32;
             0
         }
-        Framed::Refused { number: refused } => {
+        Err(refused) => {
             *length = 0;
-            refused
+            refused.into()
         }
     }
 }
 
 // A checked line's answer for C: the refusal number, 0 for none, and its place in the line through the reference, 0 for none.
-pub fn locate(answer: Fault, place: &mut usize) -> u32
+pub fn locate(answer: Option<Fault>, place: &mut usize) -> u32
     ensures { (result ∷ place.new ∷ []) ≡ fault_values answer }
 {
-    *place = answer.place;
-    answer.number
+    match answer {
+        Some(fault) => {
+            *place = fault.place;
+            fault.refusal.into()
+        }
+        None => {
+            *place = 0;
+            0
+        }
+    }
 }

@@ -1,30 +1,17 @@
--- Rows lowered in place, one row after the other, and the first that has the smallest entry of all.
+-- A row lowered by another and by columns one after the other, and the smallest entry of each.
 use mathlib.Core.Path.{◌≡◌, refl, sym, ap, ap₂, ◌∙◌}
 use mathlib.Core.List.{List, [], ◌∷◌, ◌++◌, map}
 use Prim.Native.Nat.{ℕ, zero, suc, ◌+◌, ◌≤◌, ◌<◌, min}
 use native.Mathlib.Omega.{arith}
 use native.Mathlib.Decide.{dec_lt}
-use native.Mathlib.Nat.{zero-add}
-use native.Mathlib.Numerals.{add-one}
-use lib.ListN.{length, get_or, set, take, get_or-map}
-use lib.Seq.{take-suc, take-length, length-take-le}
+use lib.ListN.{length, get_or, take, replicate, get_or-map}
+use lib.Seq.{take-suc, length-take-le}
+use Rattle.std.proofs.lemmas.Grind.{same_number_lists}
 use Rattle.meaning.specs.Rows.{least, least_at, lower, lowest}
-use Rattle.meaning.specs.Table.{Form, Columns, form_of, place, node}
+use Rattle.meaning.specs.Table.{Form, Columns, form_of, node}
 use Rattle.meaning.specs.Node.{lows}
 use Rattle.meaning.specs.Steps.{lagging}
-use Rattle.meaning.proofs.PlaceLaws.{place_none, place-all}
-use Rattle.columns.proofs.InPlace.{put_next, next_left}
-use Rattle.meaning.proofs.RowLaws.{least_at_lem, least_at_below, least_at_entry, least_at_is}
-
--- the lowered row, one entry more
-pub lower-take :
-    (xs ys : List ℕ) (i : ℕ) → i < length xs → i < length ys →
-    lower (take (suc i) xs) (take (suc i) ys) ≡ lower (take i xs) (take i ys) ++ (min (get_or xs i 0) (get_or ys i 0) ∷ [])
-unfolding lower
-lower-take [] ys i h g = absurd (omega arith)
-lower-take (x ∷ xs) [] i h g = absurd (omega arith)
-lower-take (x ∷ xs) (y ∷ ys) zero h g = refl
-lower-take (x ∷ xs) (y ∷ ys) (suc i) h g = ap (λ (r : List ℕ). min x y ∷ r) (lower-take xs ys i (omega arith) (omega arith))
+use Rattle.meaning.proofs.RowLaws.{least_at_lem, least_at_below, least_at_entry}
 
 length-lower : (xs ys : List ℕ) (n : ℕ) → length xs ≡ n → length ys ≡ n → length (lower xs ys) ≡ n
 unfolding lower
@@ -33,40 +20,30 @@ length-lower (x ∷ xs) [] n p q = absurd (omega arith)
 length-lower (x ∷ xs) (y ∷ ys) zero p q = absurd (omega arith)
 length-lower (x ∷ xs) (y ∷ ys) (suc n) p q = ap suc (length-lower xs ys n (omega arith) (omega arith))
 
--- a row r lowered by b in place, entry by entry
-abbrev pub lowered_to : ℕ → List ℕ → List ℕ → List ℕ
-lowered_to i r b = lower (take i r) (take i b)
-
-pub lowered_none : (r b : List ℕ) → r ≡ place 0 (lowered_to 0 r b) r
+lower_entry : (xs ys : List ℕ) (i : ℕ) → length xs ≡ length ys → get_or (lower xs ys) i 0 ≡ min (get_or xs i 0) (get_or ys i 0)
 unfolding lower
-lowered_none r b = sym (place_none 0 r)
+lower_entry [] [] i h = omega arith
+lower_entry [] (y ∷ ys) i h = absurd (omega arith)
+lower_entry (x ∷ xs) [] i h = absurd (omega arith)
+lower_entry (x ∷ xs) (y ∷ ys) zero h = refl
+lower_entry (x ∷ xs) (y ∷ ys) (suc i) h = lower_entry xs ys i (omega arith)
 
-module _ (r b : List ℕ) (same : length b ≡ length r) where
-  pub lowered_more :
-      (u : List ℕ) (i v : ℕ) → i < length r → u ≡ place 0 (lowered_to i r b) r → v ≡ min (get_or u i 0) (get_or b i 0) →
-      set u i v ≡ place 0 (lowered_to (i + 1) r b) r
-  lowered_more u i v h e q =
-      let l = length-lower (take i r) (take i b) i (length-take-le i r (omega arith)) (length-take-le i b (omega arith)) in
-      let z = zero-add i in
-      let left = rw z at (next_left r u (lowered_to i r b) 0 i l (omega arith) e) in
-      rw z at (put_next r u (lowered_to i r b) 0 i l (omega arith) e v) ∙
-      ap (λ (x : List ℕ). place 0 x r)
-      (ap (λ (x : ℕ). lowered_to i r b ++ (x ∷ [])) (q ∙ ap (λ (m : ℕ). min m (get_or b i 0)) left) ∙ sym (lower-take r b i h (omega arith))) ∙
-      ap (λ (m : ℕ). place 0 (lowered_to m r b) r) (sym (add-one i))
+-- a row that has the smaller of both entries at each place
+pub lower_is :
+    (r b w : List ℕ) → length b ≡ length r → length w ≡ length r → ((k : ℕ) → k < length r → get_or w k 0 ≡ min (get_or r k 0) (get_or b k 0)) →
+    w ≡ lower r b
+lower_is r b w same long each =
+    let l = length-lower r b (length r) refl same in
+    same_number_lists w (lower r b) (omega arith) (λ k h. each k (omega arith) ∙ sym (lower_entry r b k (sym same)))
 
-  pub lowered_all : (i : ℕ) → i ≡ length r → place 0 (lowered_to i r b) r ≡ lower r b
-  lowered_all i e =
-      ap₂ (λ (x y : List ℕ). place 0 (lower x y) r) (ap (λ (m : ℕ). take m r) e ∙ take-length r)
-      (ap (λ (m : ℕ). take m b) (e ∙ sym same) ∙ take-length b) ∙
-      place-all (lower r b) r (length-lower r b (length r) refl same)
-
--- a row lowered by itself, and by two others
-pub lower_self : (xs : List ℕ) → lower xs xs ≡ xs
+-- the greatest number that a word holds, at every place, lowered by a row of words
+pub lower_most : (xs : List ℕ) → ((i : ℕ) → i < length xs → get_or xs i 0 ≤ 4294967295) → lower (replicate (length xs) 4294967295) xs ≡ xs
 unfolding lower
-lower_self [] = refl
-lower_self (x ∷ xs) =
-    let m : min x x ≡ x = omega arith in
-    ap₂ (λ (y : ℕ) (ys : List ℕ). y ∷ ys) m (lower_self xs)
+lower_most [] fits = refl
+lower_most (x ∷ xs) fits =
+    let here = fits 0 (omega arith) in
+    let m : min 4294967295 x ≡ x = omega arith in
+    ap₂ (λ (y : ℕ) (ys : List ℕ). y ∷ ys) m (lower_most xs (λ i h. fits (suc i) (omega arith)))
 
 pub lower_assoc : (xs ys zs : List ℕ) → lower (lower xs ys) zs ≡ lower xs (lower ys zs)
 unfolding lower
@@ -102,6 +79,13 @@ pub record Low (xs : List ℕ) (i low : ℕ) : Type 0 where
 pub low_none : (xs : List ℕ) → 0 < length xs → Low xs 0 (get_or xs 0 0)
 low_none xs some = record { above = least_at_lem xs 0 some; below = λ j h. absurd (omega arith) }
 
+-- the greatest number that a word holds is such a one, of a row of words
+pub low_most : (xs : List ℕ) → 0 < length xs → ((i : ℕ) → get_or xs i 0 ≤ 4294967295) → Low xs 0 4294967295
+low_most xs some fits =
+    let a = least_at_lem xs 0 some in
+    let b = fits 0 in
+    record { above = omega arith; below = λ j h. absurd (omega arith) }
+
 pub low_more : (xs : List ℕ) (i low v : ℕ) → i < length xs → v ≡ min low (get_or xs i 0) → Low xs i low → Low xs (i + 1) v
 low_more xs i low v h e f =
     let a = f.above in
@@ -124,52 +108,6 @@ low_all xs i low some e f =
 pub least_of : (cs : List (List ℕ)) (k : ℕ) → get_or (map least cs) k 0 ≡ least (get_or cs k [])
 unfolding least
 least_of cs k = get_or-map least cs k []
-
--- The first of k rows that has the smallest: its place and what stands there
-pub record First (xs : List ℕ) (k low at : ℕ) : Type 0 where
-  pub inside : at < k
-  pub stands : low ≡ get_or xs at 0
-  pub none : (j : ℕ) → j < k → low ≤ get_or xs j 0
-  pub before : (j : ℕ) → j < at → low < get_or xs j 0
-
-pub first_one : (xs : List ℕ) (low : ℕ) → low ≡ get_or xs 0 0 → First xs 1 low 0
-first_one xs low e =
-    record {
-      inside = omega arith;
-      stands = e;
-      none = λ j h. let z : 0 ≡ j = omega arith in let f = ap (λ (m : ℕ). get_or xs m 0) z in omega arith;
-      before = λ j h. absurd (omega arith);
-    }
-
-module _ (xs : List ℕ) (k low at : ℕ) (f : First xs k low at) where
-  -- one row more: it is smaller than all before, or what was found stays
-  pub first_less : get_or xs k 0 < low → First xs (k + 1) (get_or xs k 0) k
-  first_less h =
-      record {
-        inside = omega arith;
-        stands = refl;
-        none = λ j g. go j g (dec_lt j k);
-        before = λ j g. let b = f.none j g in omega arith;
-      }
-    where
-      go : (j : ℕ) → j < k + 1 → Dec (j < k) → get_or xs k 0 ≤ get_or xs j 0
-      go j g (yes a) = let b = f.none j a in omega arith
-      go j g (no a) = let z : k ≡ j = omega arith in let y = ap (λ (m : ℕ). get_or xs m 0) z in omega arith
-
-  pub first_stays : low ≤ get_or xs k 0 → First xs (k + 1) low at
-  first_stays h =
-      let i = f.inside in
-      record { inside = omega arith; stands = f.stands; none = λ j g. go j g (dec_lt j k); before = f.before }
-    where
-      go : (j : ℕ) → j < k + 1 → Dec (j < k) → low ≤ get_or xs j 0
-      go j g (yes a) = f.none j a
-      go j g (no a) = let z : k ≡ j = omega arith in let y = ap (λ (m : ℕ). get_or xs m 0) z in omega arith
-
-  pub first-all : k ≡ length xs → at ≡ least_at xs
-  first-all e =
-      let i = f.inside in
-      let s = f.stands in
-      (least_at_is xs at (omega arith) (λ j g. let b = f.none j (omega arith) in omega arith) (λ j g. let b = f.before j g in omega arith)).1
 
 -- who holds a purge up, on columns
 pub lagging_columns : (t : List ℕ) (p : ℕ) → form_of t ≡ Columns → lagging t p ≡ least_at (map least (node t p).columns)

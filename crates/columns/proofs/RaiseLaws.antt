@@ -1,53 +1,12 @@
--- Rows raised in place, and columns raised one after the other.
-use mathlib.Core.Path.{◌≡◌, refl, sym, ap, ap₂, ◌∙◌}
-use mathlib.Core.List.{List, [], ◌∷◌, ◌++◌}
-use Prim.Native.Nat.{ℕ, zero, suc, ◌+◌, ◌≤◌, ◌<◌, max}
-use native.Mathlib.Numerals.{add-one}
+-- A row raised by another, and columns raised one after the other.
+use mathlib.Core.Path.{◌≡◌, refl, ap}
+use mathlib.Core.List.{List, [], ◌∷◌}
+use Prim.Native.Nat.{ℕ, zero, suc, ◌<◌}
 use native.Mathlib.Omega.{arith}
-use lib.ListN.{length, get_or, set, take}
-use lib.Seq.{take-length, length-take-le}
+use lib.ListN.{length, get_or, set}
 use Rattle.meaning.specs.Rows.{raise, raise_each}
-use Rattle.meaning.specs.Table.{part, place}
-use Rattle.meaning.proofs.PlaceLaws.{length_part, get_d_part, place_none}
-use Rattle.meaning.proofs.RowLaws.{raise-take, length-raise}
+use Rattle.meaning.proofs.RowLaws.{length-raise}
 use Rattle.columns.proofs.LayLaws.{Wide}
-use Rattle.columns.proofs.InPlace.{put_next, next_left}
-
--- the first i entries are raised
-abbrev pub raised_to : ℕ → List ℕ → List ℕ → List ℕ
-raised_to i a b = raise (take i a) (take i b)
-
-pub raised-none : (t a b : List ℕ) (to : ℕ) → t ≡ place to (raised_to 0 a b) t
-unfolding raise
-raised-none t a b to = sym (place_none to t)
-
--- n words of t from `to` on, raised by b
-module _ (t b : List ℕ) (to n : ℕ) (fits : to + n ≤ length t) (lb : length b ≡ n) where
-  pub length_raised_to : (i : ℕ) → i ≤ n → length (raised_to i (part to n t) b) ≡ i
-  length_raised_to i h =
-      let la = length_part to n t fits in
-      length-raise (take i (part to n t)) (take i b) i (length-take-le i (part to n t) (omega arith)) (length-take-le i b (omega arith))
-
-  pub raised_more :
-      (u : List ℕ) (i v : ℕ) → i < n → u ≡ place to (raised_to i (part to n t) b) t → v ≡ max (get_or u (to + i) 0) (get_or b i 0) →
-      set u (to + i) v ≡ place to (raised_to (i + 1) (part to n t) b) t
-  raised_more u i v h e q =
-      let la = length_part to n t fits in
-      let l = length_raised_to i (omega arith) in
-      let xs = raised_to i (part to n t) b in
-      let same = next_left t u xs to i l (omega arith) e ∙ sym (get_d_part to n t i (to + i) refl h) in
-      put_next t u xs to i l (omega arith) e v ∙
-      ap (λ (z : List ℕ). place to z t)
-      (ap (λ (x : ℕ). raise (take i (part to n t)) (take i b) ++ (x ∷ [])) (q ∙ ap (λ (m : ℕ). max m (get_or b i 0)) same) ∙
-      sym (raise-take (part to n t) b i (omega arith) (omega arith))) ∙
-      ap (λ (m : ℕ). place to (raised_to m (part to n t) b) t) (sym (add-one i))
-
-  pub raised_all : (i : ℕ) → i ≡ n → place to (raised_to i (part to n t) b) t ≡ place to (raise (part to n t) b) t
-  raised_all i e =
-      let la = length_part to n t fits in
-      ap₂ (λ (x y : List ℕ). place to (raise x y) t)
-      (ap (λ (m : ℕ). take m (part to n t)) (e ∙ sym la) ∙ take-length (part to n t))
-      (ap (λ (m : ℕ). take m b) (e ∙ sym lb) ∙ take-length b)
 
 -- Columns: the first k are raised
 unfoldable pub raise_first : ℕ → List (List ℕ) → List (List ℕ) → List (List ℕ)

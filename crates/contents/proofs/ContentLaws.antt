@@ -2,15 +2,18 @@
 use mathlib.Core.Path.{◌≡◌, refl, sym, ◌∙◌, ap}
 use mathlib.Core.Bool.{Bool, true, false}
 use mathlib.Core.List.{List, [], ◌∷◌}
-use Prim.Native.Nat.{ℕ, zero, suc, ◌+◌, ◌*◌, ◌%◌, ◌≤◌, ◌<◌}
+use Prim.Native.Nat.{ℕ, zero, suc, ◌+◌, ◌≤◌, ◌<◌}
 use native.Mathlib.Omega.{arith}
 use lib.ListN.{length, get_or, get_or-eq_default}
 use lib.Dec.{eqb}
 use borrow.Author.Tests.{eqb-true, eqb-false}
 use Rattle.meaning.specs.declared.Action.{Action}
-use Rattle.meaning.specs.declared.Line.{Line}
-use Rattle.meaning.specs.declared.Line.TheVariants.{Begin, Act, Refused}
+use Rattle.std.specs.Prelude.{Ok, Err, Some, None}
+use Rattle.meaning.specs.declared.Said.TheVariants.{Begin, Act}
+use Rattle.meaning.specs.Refusals.{number_of, refusal_of, fault}
+use Rattle.heads.specs.declared.Short.{Short}
 use Rattle.meaning.specs.Frames.{
+  Line,
   bytes_of,
   journal_kinds,
   widths_in,
@@ -26,11 +29,11 @@ use Rattle.meaning.specs.Frames.{
   line_values,
   read_line,
 }
-use Rattle.meaning.proofs.FrameLaws.{Good, good, clear, read_refused, read_begin, read_act}
+use Rattle.meaning.proofs.FrameLaws.{Good, good, clear, read_wrong, read_begin, read_act}
 use Rattle.numbers.specs.Numbers.{field_at}
-use Rattle.heads.specs.Heads.{no_line, short_of, Whole, write_at, session_at, purge_at, deliver_at}
+use Rattle.heads.specs.Heads.{short_of, Whole, write_at, session_at, purge_at, deliver_at}
 use Rattle.heads.proofs.FieldLaws.{rest_purge, fields_from, line_fields_lem, action_write, action_session, action_purge, action_deliver}
-use Rattle.heads.proofs.QuickLaws.{kind_24, kind_26, field_small, short_tells, held_six, held_not}
+use Rattle.heads.proofs.QuickLaws.{kind_24, kind_26, short_tells, held_refused, held_not}
 
 -- past the fields
 pub past : (xs : List ℕ) (i : ℕ) → length xs ≤ i → 0 ≡ get_or xs i 0
@@ -46,13 +49,13 @@ after_three a b c xs i = let e : 3 + i ≡ suc (suc (suc i)) = omega arith in rw
 
 module _ (l : List ℕ) where
   -- a refused line
-  pub refused_at : (line n : ℕ) → line_refusal l ≡ n → (n ≡ 0 → ⊥) → Refused n (line_place l) ≡ read_line line l
+  pub refused_at : (line n : ℕ) → line_refusal l ≡ n → (n ≡ 0 → ⊥) → Err (fault n (line_place l)) ≡ read_line line l
   refused_at line zero e h = absurd (h refl)
-  refused_at line (suc k) e h = read_refused line k l e
+  refused_at line (suc k) e h = read_wrong line k l e
 
   pub refused_field : (i : ℕ) → (line_refusal l ≡ 0 → ⊥) → 0 ≡ get_or (line_values (read_line 0 l)) (3 + i) 0
   refused_field i h =
-      past (line_refusal l ∷ line_place l ∷ []) (3 + i) (omega arith)
+      past (number_of (refusal_of (line_refusal l)) ∷ line_place l ∷ []) (3 + i) (omega arith)
       ∙ ap (λ (x : Line). get_or (line_values x) (3 + i) 0) (refused_at 0 (line_refusal l) refl h)
 
   -- a line that is not refused, by its kind
@@ -66,11 +69,11 @@ module _ (l : List ℕ) where
 
       -- a start
       module _ (start : kind ≡ 0) where
-        pub line_begin : (line n : ℕ) → n ≡ field_at l 1 1 → Begin n ≡ read_line line l
+        pub line_begin : (line n : ℕ) → n ≡ field_at l 1 1 → Ok (Begin n) ≡ read_line line l
         unfolding widths_in journal_kinds fields_from
         line_begin line n e =
             let zeroth : get_or (line_fields (bytes_of l)) 0 0 ≡ field_at l 1 1 = ap (λ (f : List ℕ). get_or f 0 0) (line_fields_lem l 0 (is ∙ start)) in
-            ap Begin (e ∙ sym zeroth) ∙ read_begin line l clear (is ∙ start)
+            ap (λ (m : ℕ). Ok (Begin m)) (e ∙ sym zeroth) ∙ read_begin line l clear (is ∙ start)
 
         start_field : (i r : ℕ) → r ≡ get_or (fields_of (purge_at l)) i 0 → r ≡ get_or (line_values (read_line 0 l)) (3 + i) 0
         start_field i r e =
@@ -78,7 +81,7 @@ module _ (l : List ℕ) where
 
       -- a step
       module _ (step : kind ≡ 0 → ⊥) where
-        pub line_act : (line : ℕ) → Act (record { line = line; action = action_of kind (line_fields (bytes_of l)) }) ≡ read_line line l
+        pub line_act : (line : ℕ) → Ok (Act (record { line = line; action = action_of kind (line_fields (bytes_of l)) })) ≡ read_line line l
         line_act line = rw is at (read_act line l clear (λ z. step (sym is ∙ z)))
 
         step_field : (x : Action) (i r : ℕ) → x ≡ action_of kind (line_fields (bytes_of l)) → r ≡ get_or (fields_of x) i 0
@@ -115,22 +118,22 @@ module _ (l : List ℕ) (z : line_refusal l ≡ 0) where
   field_session i r long e = session_value l z 2 (kind_26 l (good l z) long) i r refl e
 
 -- the field of a line shorter than a write's, by what it holds
-module _ (l : List ℕ) (x : ℕ) (e : x ≡ short_of l) (few : length l < 24) (h : x < no_line) where
-  tells : Good l × (x ≡ 256 * line_kind (bytes_of l) + field_at l 1 1)
-  tells = short_tells l x e h
+module _ (l : List ℕ) (few : length l < 24) where
+  module _ (x : Short) (e : Some x ≡ short_of l) where
+    short_of_lem : (i r : ℕ) → r ≡ get_or (fields_of (purge_at l)) i 0 → r ≡ get_or (line_values (read_line 0 l)) (3 + i) 0
+    unfolding digits_in widths_in journal_kinds
+    short_of_lem i r =
+        let no_write = held_not l x e few 1 (omega arith) in
+        let no_session = held_not l x e few 2 (omega arith) in
+        short_value l (clear l (short_tells l x e).0) (line_kind (bytes_of l)) refl i r no_write no_session
 
-  held_field : x % 256 ≡ field_at l 1 1
-  held_field = omega (arith, tells.1, field_small l tells.0 (held_six l x e few h))
+    pub field_held : (i : ℕ) → i ≡ 0 → x.field ≡ get_or (line_values (read_line 0 l)) (3 + i) 0
+    field_held i z =
+        let held_field : x.field ≡ field_at l 1 1 = ap (λ (y : Short). y.field) (short_tells l x e).1 in
+        short_of_lem i x.field (value_at (field_at l 1 1 ∷ []) i 0 x.field z held_field)
 
-  short_of_lem : (i r : ℕ) → r ≡ get_or (fields_of (purge_at l)) i 0 → r ≡ get_or (line_values (read_line 0 l)) (3 + i) 0
-  unfolding digits_in widths_in journal_kinds
-  short_of_lem i r =
-      let no_write = held_not l x e few h 1 (omega arith) in
-      let no_session = held_not l x e few h 2 (omega arith) in
-      short_value l (clear l tells.0) (line_kind (bytes_of l)) refl i r no_write no_session
+    pub field_past : (i : ℕ) → (i ≡ 0 → ⊥) → 0 ≡ get_or (line_values (read_line 0 l)) (3 + i) 0
+    field_past i n = short_of_lem i 0 (past (field_at l 1 1 ∷ []) i (omega arith))
 
-  pub field_held : (i : ℕ) → i ≡ 0 → x % 256 ≡ get_or (line_values (read_line 0 l)) (3 + i) 0
-  field_held i z = short_of_lem i (x % 256) (value_at (field_at l 1 1 ∷ []) i 0 (x % 256) z held_field)
-
-  pub field_past : (i : ℕ) → (i ≡ 0 → ⊥) → 0 ≡ get_or (line_values (read_line 0 l)) (3 + i) 0
-  field_past i n = short_of_lem i 0 (past (field_at l 1 1 ∷ []) i (omega arith))
+  pub field_none : (i : ℕ) → None ≡ short_of l → 0 ≡ get_or (line_values (read_line 0 l)) (3 + i) 0
+  field_none i e = refused_field l i (held_refused l e)

@@ -59,16 +59,13 @@ pub fn session_field(s: &[u8], index: u32) -> u32
 }
 
 // The field at a place of a line shorter than a write's, 0 where it is refused.
+#[tactic(auto, using(crate::proofs::ContentLaws::field_held, crate::proofs::ContentLaws::field_past, crate::proofs::ContentLaws::field_none))]
 pub fn short_field(s: &[u8], index: u32) -> u32
     requires { length s.now < 24 }
     ensures { result ≡ get_or (line_values (read_line 0 s.now)) (3 + index) 0 }
 {
-    let held = quick::short_held(s);
-    if heads::NO_LINE <= held {
-        return 0;
+    match quick::short_held(s) {
+        Some(held) if index == 0 => held.field as u32,
+        _ => 0,
     }
-    if index != 0 {
-        return 0;
-    }
-    held % 256
 }

@@ -5,7 +5,6 @@ use Rattle.std.proofs.Common.{
   zero,
   suc,
   ◌+◌,
-  ◌-◌,
   ◌*◌,
   ◌/◌,
   ◌%◌,
@@ -15,8 +14,6 @@ use Rattle.std.proofs.Common.{
   true,
   false,
   cond,
-  ◌&&◌,
-  leb,
   List,
   [],
   ◌∷◌,
@@ -38,43 +35,28 @@ use Rattle.std.proofs.Common.{
   below_more,
   eq-eqb,
   ne_eqb,
-  le-leb,
-  leb-true,
+  ltb-true,
+  lt-ltb,
+  le-ltb,
+  ltb-false,
+  nat_lt,
+  Some,
+  None,
+  Option,
 }
+use Rattle.std.specs.List.{position_or_len}
+use Rattle.std.proofs.lemmas.List.Recursion.{is_position_or_len}
+use Rattle.std.specs.Option.{unwrap_or, option_eq}
+use Rattle.std.proofs.lemmas.Bool.{eqb-true}
+use Rattle.std.proofs.Math.Dec.{eqb}
 use lib.Bits.{bit_or, or_lt}
-use Rattle.meaning.specs.Frames.{digit_value, bytes_of, all_digits, total}
+use Rattle.meaning.specs.Frames.{digit_value, bytes_of, all_digits, stray_at, total}
 use Rattle.meaning.proofs.BitLaws.{or_left, or_right}
-use Rattle.meaning.proofs.FrameLaws.{length-bytes_of, byte_at, digits_at, digits_all, total-append}
-use Rattle.digits.specs.Digits.{letter_value, weigh, sum_of, values_of}
+use Rattle.meaning.proofs.FrameLaws.{length-bytes_of, byte_at, digits_at, digits_all, total-append, stray_none, stray_within}
+use Rattle.digits.specs.Digits.{weigh, sum_of, values_of, stray_of}
 
 abbrev pub Digit : List ℕ → ℕ → Type 0
 Digit l i = digit_value (get_or l i 0) < 16
-
--- a letter's number, and a digit's that is no decimal one
-pub letter_some : (c : ℕ) → 65 ≤ c → c ≤ 70 → c - 55 ≡ letter_value c
-unfolding letter_value
-letter_some c p q = cc (le-leb 65 c p, le-leb c 70 q)
-
-pub letter_none : (c : ℕ) → (65 ≤ c → c ≤ 70 → ⊥) → 16 ≡ letter_value c
-unfolding letter_value
-letter_none c p = go (leb 65 c) (leb c 70) refl refl
-  where
-    go : (a b : Bool) → leb 65 c ≡ a → leb c 70 ≡ b → 16 ≡ cond (a && b) (c - 55) 16
-    go true true x y = absurd (p (leb-true 65 c x) (leb-true c 70 y))
-    go true false x y = refl
-    go false b x y = refl
-
-pub digit_other : (c : ℕ) → (48 ≤ c → c ≤ 57 → ⊥) → letter_value c ≡ digit_value c
-unfolding letter_value digit_value
-digit_other c p = go (leb 48 c) (leb c 57) refl refl
-  where
-    other : ℕ
-    other = cond (leb 65 c && leb c 70) (c - 55) 16
-
-    go : (a b : Bool) → leb 48 c ≡ a → leb c 57 ≡ b → other ≡ cond (a && b) (c - 48) other
-    go true true x y = absurd (p (leb-true 48 c x) (leb-true c 57 y))
-    go true false x y = refl
-    go false b x y = refl
 
 -- a digit's share of the sum
 pub weigh_even : (place v : ℕ) → place % 2 ≡ 0 → weigh place v ≡ 16 * v % 256
@@ -124,27 +106,27 @@ module _ (l : List ℕ) where
       even zero p = refl
       even (suc j) p = absurd (omega arith)
 
-  module _ (n v w sum : ℕ) (h : n < length l) (e : v ≡ digit_value (get_or l n 0)) (f : w ≡ weigh n v) (s : Sum sum n) where
-    first_half : (j : ℕ) → n + 1 ≡ 2 * j + 1 → (sum + w) % 256 ≡ (total (take j (bytes_of l)) + 16 * digit_value (get_or l (2 * j) 0)) % 256
+  module _ (n v sum : ℕ) (h : n < length l) (e : v ≡ digit_value (get_or l n 0)) (s : Sum sum n) where
+    first_half : (j : ℕ) → n + 1 ≡ 2 * j + 1 → (sum + weigh n v) % 256 ≡ (total (take j (bytes_of l)) + 16 * digit_value (get_or l (2 * j) 0)) % 256
     first_half j p =
         let here : n ≡ 2 * j = omega arith in
-        let share : w ≡ 16 * v % 256 = f ∙ weigh_even n v (omega arith) in
+        let share : weigh n v ≡ 16 * v % 256 = weigh_even n v (omega arith) in
         let digit : v ≡ digit_value (get_or l (2 * j) 0) = rw here at e in
         omega (arith, s.0 j here, share, digit)
 
-    second_half : (j : ℕ) → n + 1 ≡ 2 * j → (sum + w) % 256 ≡ total (take j (bytes_of l))
+    second_half : (j : ℕ) → n + 1 ≡ 2 * j → (sum + weigh n v) % 256 ≡ total (take j (bytes_of l))
     unfolding total
     second_half zero p = absurd (omega arith)
     second_half (suc j) p =
         let here : n ≡ 2 * j + 1 = omega arith in
-        let share : w ≡ v = f ∙ weigh_odd n v (omega arith) in
+        let share : weigh n v ≡ v = weigh_odd n v (omega arith) in
         let digit : v ≡ digit_value (get_or l (2 * j + 1) 0) = rw here at e in
         let byte = byte_at l j (omega (arith, length-bytes_of l)) in
         let more : take (suc j) (bytes_of l) ≡ take j (bytes_of l) ++ (get_or (bytes_of l) j 0 ∷ [])
         = take-suc (bytes_of l) j 0 (omega (arith, length-bytes_of l)) in
         rw more (omega (arith, total-append (take j (bytes_of l)) (get_or (bytes_of l) j 0 ∷ []), s.1 j here, share, digit, byte))
 
-    pub sum_more : (next : ℕ) → next ≡ (sum + w) % 256 → Sum next (n + 1)
+    pub sum_more : (next : ℕ) → next ≡ (sum + weigh n v) % 256 → Sum next (n + 1)
     sum_more next q = (λ j p. q ∙ second_half j p, λ j p. q ∙ first_half j p)
 
   pub sum-all : (n sum : ℕ) → n ≡ length l → length l % 2 ≡ 0 → Sum sum n → sum ≡ total (bytes_of l)
@@ -152,21 +134,45 @@ module _ (l : List ℕ) where
 
 -- the sum of a line, and what it tells
 module _ (l : List ℕ) where
-  pub sum_stray : all_digits l ≡ false → 256 ≡ sum_of l
+  pub sum_right : (sum : ℕ) → all_digits l ≡ true → sum ≡ total (bytes_of l) → Some sum ≡ sum_of l
   unfolding sum_of
-  sum_stray p = cc
+  sum_right sum p e = ap Some e ∙ cc
 
-  pub sum_right : (sum : ℕ) → all_digits l ≡ true → sum ≡ total (bytes_of l) → sum ≡ sum_of l
+  pub sum_digits : (sum : ℕ) → Some sum ≡ sum_of l → (all_digits l ≡ true) × (total (bytes_of l) ≡ sum)
   unfolding sum_of
-  sum_right sum p e = e ∙ cc
-
-  pub sum_digits : (sum : ℕ) → sum ≡ sum_of l → sum < 256 → (all_digits l ≡ true) × (total (bytes_of l) ≡ sum)
-  unfolding sum_of
-  sum_digits sum e h = go (all_digits l) refl e
+  sum_digits sum e = go (all_digits l) refl e
     where
-      go : (b : Bool) → all_digits l ≡ b → sum ≡ cond b (total (bytes_of l)) 256 → (b ≡ true) × (total (bytes_of l) ≡ sum)
-      go true p q = (refl, sym q)
-      go false p q = absurd (omega arith)
+      go : (b : Bool) → all_digits l ≡ b → Some sum ≡ cond b (Some (total (bytes_of l))) None → (b ≡ true) × (total (bytes_of l) ≡ sum)
+      go true p q = (refl, cc)
+      go false p q = cc
+
+  -- the sum as a number, 256 for none
+  pub sum_number : unwrap_or (sum_of l) 256 ≡ cond (all_digits l) (total (bytes_of l)) 256
+  unfolding sum_of
+  sum_number = go (all_digits l)
+    where
+      go : (b : Bool) → unwrap_or (cond b (Some (total (bytes_of l))) None) 256 ≡ cond b (total (bytes_of l)) 256
+      go true = refl
+      go false = refl
+
+  -- what the pass over a whole line tells
+  pub told_of : (seen sum n : ℕ) → n ≡ length l → length l % 2 ≡ 0 → Seen l seen n → Sum l sum n
+      → cond (nat_lt 15 seen) None (Some sum) ≡ sum_of l
+  unfolding sum_of
+  told_of seen sum n e even s t = go (nat_lt 15 seen) refl
+    where
+      go : (b : Bool) → nat_lt 15 seen ≡ b → cond b None (Some sum) ≡ cond (all_digits l) (Some (total (bytes_of l))) None
+      go true p = cc (seen_stray l seen n s (ltb-true 15 seen p))
+      go false p = cc (seen_all l seen n e s (ltb-false 15 seen p), sum-all l n sum e even t)
+
+-- a sum asked for
+pub told_some : (o : Option ℕ) (n : ℕ) → option_eq eqb o (Some n) ≡ true → Some n ≡ o
+told_some None n h = cc
+told_some (Some m) n h = ap Some (sym (eqb-true m n h))
+
+pub some_told : (o : Option ℕ) (n : ℕ) → Some n ≡ o → option_eq eqb o (Some n) ≡ true
+some_told None n h = cc
+some_told (Some m) n h = eq-eqb m n (cc)
 
 -- the characters' numbers
 pub length_values : (l : List ℕ) → length (values_of l) ≡ length l
@@ -199,3 +205,25 @@ valued_more l v n d h e p =
 
 pub valued_all : (l v : List ℕ) (n : ℕ) → n ≡ length l → Valued l v n → v ≡ values_of l
 valued_all l v n e p = sym (take_all n v (omega arith)) ∙ p.1 ∙ take_all n (values_of l) (omega (arith, length_values l))
+
+-- the place of the first character that is no digit, as it is defined
+stray_place : (l : List ℕ) → stray_at l ≡ position_or_len (λ c. nat_lt 15 (digit_value c)) l
+unfolding stray_at
+stray_place l = is_position_or_len stray_at (λ c. nat_lt 15 (digit_value c)) refl (λ c cs. turned (digit_value c) (stray_at cs)) l
+  where
+    turned : (v n : ℕ) → cond (nat_lt v 16) (suc n) 0 ≡ cond (nat_lt 15 v) 0 (1 + n)
+    turned v n = go (nat_lt 15 v) refl
+      where
+        one_more : suc n ≡ 1 + n
+        one_more = omega arith
+
+        go : (b : Bool) → nat_lt 15 v ≡ b → cond (nat_lt v 16) (suc n) 0 ≡ cond b 0 (1 + n)
+        go true p = cc (le-ltb v 16 (ltb-true 15 v p))
+        go false p = cc (lt-ltb v 16 (omega (arith, ltb-false 15 v p)), one_more)
+
+pub stray_found : (l : List ℕ) → stray_of l ≡ cond (all_digits l) None (Some (stray_at l))
+stray_found l = go (all_digits l) refl
+  where
+    go : (b : Bool) → all_digits l ≡ b → stray_of l ≡ cond b None (Some (stray_at l))
+    go true p = cc (stray_place l, le-ltb (stray_at l) (length l) (omega (arith, stray_none l p)))
+    go false p = cc (stray_place l, lt-ltb (stray_at l) (length l) (stray_within l p))

@@ -2,11 +2,12 @@
 // Inner functions: what they require, `quick`, `faults`, `six` and `turns` show.
 #![tactic(auto)]
 
-ghost use Rattle.std.specs.Prelude.{◌≡◌, ◌%◌, length};
-ghost use Rattle.meaning.specs.Frames.{digit_value, stray_at};
-ghost use Rattle.digits.specs.Digits.{letter_value, weigh, sum_of, values_of};
+ghost use Rattle.std.specs.Prelude.{◌≡◌, ◌+◌, ◌%◌, cond, nat_lt, length, bit_or};
+ghost use Rattle.meaning.specs.Frames.{digit_value};
+ghost use Rattle.digits.specs.Digits.{letter_value, weigh, sum_of, values_of, stray_of};
 
-// The number of a letter A to F, 16 for any other character.
+// The number of a letter A to F, 16 for any other character: a number for none keeps a digit free of branches, a measured shape (docs/PERFORMANCE.md).
+#[tactic(auto, unfolding(crate::specs::Digits::letter_value))]
 fn letter(c: u8) -> u8
     ensures { result ≡ letter_value c }
 {
@@ -18,6 +19,7 @@ fn letter(c: u8) -> u8
 
 // The number of a hexadecimal digit, 16 where the character is none: "a character is not 0 to 9 or A to F".
 // Each match has a single range, so that it is compiled without a branch.
+#[tactic(auto, unfolding(crate::specs::Digits::letter_value, meaning::specs::Frames::digit_value))]
 fn digit_value(c: u8) -> u8
     ensures { result ≡ digit_value c }
 {
@@ -29,67 +31,76 @@ fn digit_value(c: u8) -> u8
 }
 
 // What a digit of this number adds to the sum, by its place in the line: the first of a byte's two counts 16 times.
+#[tactic(auto, unfolding(crate::specs::Digits::weigh))]
 fn weighed(v: u8, place: usize) -> u8
     ensures { result ≡ weigh place v }
 {
     if place % 2 == 0 {
-        return (16 * (v as u32) % 256) as u8;
+        return v.wrapping_mul(16);
     }
     v
 }
 
-// The sum of the bytes of a line of even length, "wrapping at 256"; 256 where a character is no digit. One character a turn and no early end,
+// What the digits passed so far tell: the bits of their numbers, of which a character that is no digit has the fifth, and the sum of their bytes.
+#[derive(Clone, Copy)]
+struct Pass {
+    seen: u8,
+    sum: u8,
+}
+
+impl Pass {
+    // One more digit, at this place in the line.
+    fn then(self, v: u8, place: usize) -> Pass
+        ensures seen { result.seen ≡ bit_or self.seen v }
+        ensures sum { result.sum ≡ (self.sum + weigh place v) % 256 }
+    {
+        Pass {
+            seen: self.seen | v,
+            sum: self.sum.wrapping_add(weighed(v, place)),
+        }
+    }
+
+    // The sum, none where a character was no digit.
+    fn told(self) -> Option<u8>
+        ensures { result ≡ cond (nat_lt 15 self.seen) None (Some self.sum) }
+    {
+        if 15 < self.seen {
+            return None;
+        }
+        Some(self.sum)
+    }
+}
+
+// The sum of the bytes of a line of even length, "wrapping at 256"; none where a character is no digit. One character a turn and no early end,
 // so that it becomes vector code where the length is known.
-pub fn total(s: &[u8]) -> u32
+pub fn total(s: &[u8]) -> Option<u8>
     requires { length s.now % 2 ≡ 0 }
     ensures { result ≡ sum_of s.now }
 {
-    let mut seen: u8 = 0;
-    let mut sum: u8 = 0;
-    let mut k: usize = 0;
-    while k < s.len() {
-        let v = digit_value(s[k]);
-        seen = seen | v;
-        sum = std::num::wrapping_add_u8(sum, weighed(v, k));
-        k += 1;
+    let mut pass = Pass { seen: 0, sum: 0 };
+    for (k, &c) in s.iter().enumerate() {
+        pass = pass.then(digit_value(c), k);
     }
-    if 15 < seen {
-        return 256;
-    }
-    sum as u32
+    pass.told()
 }
 
 // The same, with the digits' numbers left in v.
-pub fn values(s: &[u8], v: &mut [u8]) -> u32
+pub fn values(s: &[u8], v: &mut [u8]) -> Option<u8>
     requires { (length s.now % 2 ≡ 0) × (length v.old ≡ length s.now) }
     ensures { (result ≡ sum_of s.now) × (v.new ≡ values_of s.now) }
 {
-    let mut seen: u8 = 0;
-    let mut sum: u8 = 0;
-    let mut k: usize = 0;
-    while k < s.len() {
-        let x = digit_value(s[k]);
+    let mut pass = Pass { seen: 0, sum: 0 };
+    for (k, &c) in s.iter().enumerate() {
+        let x = digit_value(c);
         v[k] = x;
-        seen = seen | x;
-        sum = std::num::wrapping_add_u8(sum, weighed(x, k));
-        k += 1;
+        pass = pass.then(x, k);
     }
-    if 15 < seen {
-        return 256;
-    }
-    sum as u32
+    pass.told()
 }
 
-// The place of the first character that is no digit, the line's length where all are. Only a line that is refused is asked for it.
-pub fn stray_at(s: &[u8]) -> usize
-    ensures { result ≡ stray_at s.now }
+// The place of the first character that is no digit, none where all are. Only a line that is refused is asked for it.
+pub fn stray_at(s: &[u8]) -> Option<usize>
+    ensures { result ≡ stray_of s.now }
 {
-    let mut k: usize = 0;
-    while k < s.len() {
-        if 15 < digit_value(s[k]) {
-            return k;
-        }
-        k += 1;
-    }
-    k
+    s.iter().position(|&c| 15 < digit_value(c))
 }

@@ -7,97 +7,68 @@
 ghost use Rattle.std.specs.Prelude.{◌≤◌, ◌<◌, length};
 
 use crate::{say, walk};
-use meaning::{Line, Reply};
+use meaning::{Reply, Report, Said};
+use std::io;
 
-// The place of a byte, or the end where it is not there.
-fn until(s: &[u8], from: usize, byte: u8) -> usize
-    requires { from ≤ length s.now }
-    ensures { (from ≤ result) × (result ≤ length s.now) }
+// What stands before the first such byte and what stands after it, all and nothing where it is not there.
+fn cut(s: &[u8], byte: u8) -> (&[u8], &[u8])
+    ensures within { length result.1.now ≤ length s.now }
+    ensures shorter { 0 < length s.now → length result.1.now < length s.now }
 {
-    let mut i = from;
-    while i < s.len() {
-        if s[i] == byte {
-            return i;
-        }
-        i += 1;
+    match s.iter().position(|b| *b == byte) {
+        Some(at) => (&s[..at], &s[at + 1..]),
+        None => (s, &[]),
     }
-    i
-}
-
-// The place after this one, none beyond the end.
-fn after(s: &[u8], at: usize) -> usize
-    requires { at ≤ length s.now }
-    ensures { (at ≤ result) × (result ≤ length s.now) }
-{
-    if at < s.len() { at + 1 } else { at }
 }
 
 // What a frame does to the table.
 fn apply(t: &mut [u32], frame: &[u8]) -> Reply {
     match reading::read_line(frame, 2) {
-        Line::Begin { n } => {
-            table::fresh(t, n as u32);
-            Reply::Written
+        Ok(Said::Begin { n }) => {
+            table::fresh(t, u32::from(n))?;
+            Ok(Report::Written)
         }
-        Line::Act { step } => table::apply(t, step),
-        Line::Refused { number, place: _ } => Reply::Refused { number },
+        Ok(Said::Act { step }) => table::apply(t, step),
+        Err(fault) => Err(fault.refusal),
     }
 }
 
 // A frame applied, and what it replied.
-fn said(rt: &HostRuntime, t: &mut [u32], case: &[u8]) {
-    let end = until(case, 0, b' ');
+fn said(rt: &HostRuntime, t: &mut [u32], case: &[u8]) -> io::Result<()> {
+    let (frame, name) = cut(case, b' ');
     let before = say::digest(t);
-    let r = apply(t, &case[0..end]);
-    let from = after(case, end);
-    say::reply(rt, t, &case[from..case.len()], r, before);
+    let r = apply(t, frame);
+    say::reply(rt, t, name, r, before)
 }
 
 // One case that stands on a line.
-fn line(rt: &HostRuntime, t: &mut [u32], case: &[u8]) {
-    if case.len() == 0 {
-        return;
-    }
-    let rest = &case[1..case.len()];
-    match case[0] {
-        b'=' => {
-            apply(t, rest);
+fn line(rt: &HostRuntime, t: &mut [u32], case: &[u8]) -> io::Result<()> {
+    match case {
+        [b'=', frame @ ..] => {
+            let _ = apply(t, frame);
+            Ok(())
         }
-        b'+' => said(rt, t, rest),
-        b'?' => say::frame(rt, rest),
-        _ => {}
+        [b'+', rest @ ..] => said(rt, t, rest),
+        [b'?', bytes @ ..] => say::frame(rt, bytes),
+        _ => Ok(()),
     }
 }
 
-// A journal's name on this line, and the journal from the next one on; the place of its end.
-fn journal(rt: &HostRuntime, s: &[u8], from: usize) -> usize
-    requires { from ≤ length s.now }
-    ensures { (from ≤ result) × (result ≤ length s.now) }
-{
-    let end = until(s, from, b'\n');
-    let start = after(s, end);
-    let to = until(s, start, b'.');
-    walk::journal(rt, &s[from..end], &s[start..to]);
-    to
-}
-
-// The case at a place, and the place where it ends.
-fn case(rt: &HostRuntime, t: &mut [u32], s: &[u8], at: usize) -> usize
-    requires { at < length s.now }
-    ensures { (at ≤ result) × (result ≤ length s.now) }
-{
-    if s[at] == b'>' {
-        return journal(rt, s, at + 1);
+// Every case, in order. A journal's name stands on its line, and the journal from the next one on, up to a `.`: a turn takes one piece or two, so
+// this is no `for`.
+pub(crate) fn all(rt: &HostRuntime, t: &mut [u32], cases: &[u8]) -> io::Result<()> {
+    let mut rest = cases;
+    while !rest.is_empty() {
+        let (case, after) = cut(rest, b'\n');
+        rest = after;
+        match case {
+            [b'>', name @ ..] => {
+                let (journal, after) = cut(rest, b'.');
+                walk::journal(rt, name, journal)?;
+                rest = after;
+            }
+            _ => line(rt, t, case)?,
+        }
     }
-    let end = until(s, at, b'\n');
-    line(rt, t, &s[at..end]);
-    end
-}
-
-// Every case, in order.
-pub(crate) fn all(rt: &HostRuntime, t: &mut [u32], s: &[u8]) {
-    let mut at: usize = 0;
-    while at < s.len() {
-        at = case(rt, t, s, at) + 1;
-    }
+    Ok(())
 }

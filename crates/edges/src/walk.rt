@@ -1,98 +1,89 @@
 // A journal walked with the reader, line by line: where each line stands, its part of the journal, what it says, and its frame written back.
 use crate::say;
-use meaning::{Framed, Next, Step};
+use meaning::{Fault, Framed, Next, NextLine};
+use reader::Reader;
+use std::io;
 
 // The bytes begin with the part and an LF after it.
 fn is_frame(out: &[u8], part: &[u8]) -> bool {
-    if out.len() <= part.len() {
-        return false;
+    match out.strip_prefix(part) {
+        Some([b'\n', ..]) => true,
+        _ => false,
     }
-    let mut i: usize = 0;
-    while i < part.len() {
-        if out[i] != part[i] {
-            return false;
-        }
-        i += 1;
-    }
-    out[i] == b'\n'
 }
 
 // How a frame that was written compares with the line that was read.
-fn compared(rt: &HostRuntime, out: &[u8], framed: Framed, part: &[u8]) {
+fn compared(rt: &HostRuntime, out: &[u8], framed: Framed, part: &[u8]) -> io::Result<()> {
     match framed {
-        Framed::Length { bytes } => {
-            say::place(rt, b", written back in ", bytes);
-            if is_frame(out, part) {
-                say::text(rt, b" bytes, alike");
+        Ok(bytes) => {
+            let alike = if is_frame(out, part) {
+                "alike"
             } else {
-                say::text(rt, b" bytes, another line");
-            }
+                "another line"
+            };
+            print!(rt; ", written back in {bytes} bytes, {alike}")
         }
-        Framed::Refused { number } => say::field(rt, b", not written back: ", number),
+        Err(refusal) => {
+            let number = u32::from(refusal);
+            print!(rt; ", not written back: {number}")
+        }
     }
 }
 
-// A start's frame written back.
-fn start(rt: &HostRuntime, n: u8, part: &[u8]) {
+// What a line says, with its frame written back.
+fn said(rt: &HostRuntime, line: NextLine, part: &[u8]) -> io::Result<()> {
     let mut out = [0u8; 32];
-    let framed = writing::write_start(&mut out, n);
-    say::field(rt, b" starts ", n as u32);
-    compared(rt, &out, framed, part);
-}
-
-// A step's frame written back.
-fn step(rt: &HostRuntime, step: Step, part: &[u8]) {
-    let mut out = [0u8; 32];
-    let framed = writing::write_step(&mut out, step);
-    compared(rt, &out, framed, part);
+    let framed = match line {
+        NextLine::Begin { n, .. } => {
+            print!(rt; " starts {n}")?;
+            writing::write_start(&mut out, n)
+        }
+        NextLine::Act { step, .. } => writing::write_step(&mut out, step),
+    };
+    compared(rt, &out, framed, part)
 }
 
 // A refusal, and the line that is refused: the reader's part is empty then, the finder's is the line, or empty where no LF ends one.
-fn refused(rt: &HostRuntime, s: &[u8], at: usize, number: u32, place: usize) {
-    say::refusal(rt, number, place);
-    say::text(rt, b" of '");
-    say::text(rt, finder::line(s, at));
-    say::text(rt, b"'");
+fn refused(rt: &HostRuntime, reader: Reader, fault: Fault) -> io::Result<()> {
+    say::refusal(rt, fault)?;
+    print!(rt; " of '")?;
+    say::text(rt, finder::line(reader.journal, reader.at))?;
+    print!(rt; "'")
 }
 
 // What the reader found.
-fn answer(rt: &HostRuntime, s: &[u8], at: usize, found: Next, part: &[u8]) {
+fn answer(rt: &HostRuntime, reader: Reader, found: Next, part: &[u8]) -> io::Result<()> {
     match found {
-        Next::Begin { n, next: _ } => start(rt, n, part),
-        Next::Act { step: x, next: _ } => step(rt, x, part),
-        Next::Refused { number, place } => refused(rt, s, at, number, place),
-        Next::End => {
-            say::text(rt, b"the end");
-        }
+        Ok(Some(line)) => said(rt, line, part),
+        Ok(None) => print!(rt; "the end"),
+        Err(fault) => refused(rt, reader, fault),
     }
 }
 
-// The line at a place, and the position after it.
-fn one(rt: &HostRuntime, s: &[u8], at: usize, line: usize) -> usize {
-    let part = reader::part_from(s, at, line);
-    let to = reader::place_from(s, at, line);
-    say::place(rt, b"line ", line);
-    say::place(rt, b" at ", at);
-    say::place(rt, b" to ", to);
-    say::text(rt, b": ");
-    say::text(rt, part);
-    answer(rt, s, at, reader::next_from(s, at, line), part);
-    say::text(rt, b"\n");
-    to
+// The line where the reader stands, and the reader after it.
+fn one<'a>(rt: &HostRuntime, reader: Reader<'a>, line: usize) -> io::Result<Reader<'a>> {
+    let part = reader.part(line);
+    let after = reader.moved(line);
+    let at = reader.at;
+    let to = after.at;
+    print!(rt; "line {line} at {at} to {to}: ")?;
+    say::text(rt, part)?;
+    answer(rt, reader, reader.next(line), part)?;
+    println!(rt; "")?;
+    Ok(after)
 }
 
 // From the journal's start to its end or the first refused line, ten lines at most.
-pub(crate) fn journal(rt: &HostRuntime, name: &[u8], s: &[u8]) {
-    say::text(rt, name);
-    say::text(rt, b"\n");
-    let mut at: usize = 0;
-    let mut line: usize = 1;
-    while line < 11 {
-        let to = one(rt, s, at, line);
-        if to == at {
-            return;
+pub(crate) fn journal(rt: &HostRuntime, name: &[u8], s: &[u8]) -> io::Result<()> {
+    say::text(rt, name)?;
+    println!(rt; "")?;
+    let mut reader = Reader::new(s, 0);
+    for line in 1..11 {
+        let after = one(rt, reader, line)?;
+        if after.at == reader.at {
+            break;
         }
-        at = to;
-        line += 1;
+        reader = after;
     }
+    Ok(())
 }

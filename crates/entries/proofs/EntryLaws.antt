@@ -2,10 +2,10 @@
 use mathlib.Core.Path.{◌≡◌, refl, sym, ap, ◌∙◌}
 use mathlib.Core.Bool.{Bool, true, false, not}
 use mathlib.Core.List.{List, [], ◌∷◌}
-use Prim.Native.Nat.{ℕ, zero, suc, ◌+◌, ◌*◌, ◌<◌, ◌≤◌}
+use Prim.Native.Nat.{ℕ, zero, suc, ◌+◌, ◌-◌, ◌*◌, ◌<◌, ◌≤◌}
 use native.Mathlib.Omega.{arith}
 use borrow.Author.Tests.{ltb-true, not-true, not-false}
-use lib.ListN.{length, get_or, get_or-eq_default}
+use lib.ListN.{length, get_or, take, drop, get_or-eq_default}
 use lib.Dec.{ltb}
 use Rattle.meaning.specs.declared.Record.{Record}
 use Rattle.meaning.specs.Rows.{record_at, words}
@@ -30,20 +30,16 @@ use Rattle.meaning.specs.Table.{
   sound,
   Sound,
 }
-use Rattle.meaning.proofs.PlaceLaws.{get_d_part, length_part}
+use Rattle.meaning.proofs.PlaceLaws.{get_d_part}
 use Rattle.meaning.proofs.RowLaws.{and_left, and_right, get_or-records}
 use Rattle.meaning.proofs.ColumnLaws.{get_or_columns}
 use Rattle.meaning.proofs.TableLaws.{sound_facts, held_log_lem, node_columns}
 use Rattle.entries.specs.Entries.{present, summary_entry, ack_entry, column_entry, held_number, nothing, record_word, mark_entry}
 
--- an entry of a row of n, by the test of the place
-pub entry_in : (t : List ℕ) (at n o : ℕ) → o < n → get_or t (at + o) 0 ≡ get_or (part at n t) o 0
-entry_in t at n o h = sym (get_d_part at n t o (at + o) refl h)
-
-pub entry_out : (t : List ℕ) (at n o : ℕ) → at + n ≤ length t → n ≤ o → 0 ≡ get_or (part at n t) o 0
-entry_out t at n o fits h =
-    let l = length_part at n t fits in
-    sym (get_or-eq_default (part at n t) 0 (omega arith))
+-- an entry of a row of n, as the code cuts the row
+pub row_is : (t : List ℕ) (at n m o : ℕ) → n ≡ m → get_or (take (at + n - at) (drop at t)) o 0 ≡ get_or (part at m t) o 0
+unfolding part
+row_is t at n m o e = let k : at + n - at ≡ n = omega arith in ap (λ (j : ℕ). get_or (take j (drop at t)) o 0) (k ∙ e)
 
 -- a record's words, by their place
 word_at : (w : List ℕ) (i k : ℕ) → k ≤ 3 → get_or w (4 * i + k) 0 ≡ get_or (words (record_at w i ∷ [])) k 0

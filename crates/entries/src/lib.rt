@@ -1,4 +1,6 @@
 // What C reads of a table: one scan for soundness a call, and 0 where there is none. The definitions are those of specs/Entries.antt.
+// The words are lent for reading alone, so they make no `SoundTable`. Each 0 that C asks for stands where the thing is found absent: functions that
+// answer an Option before it would be six more, and say no less.
 #![tactic(auto)]
 
 ghost use Rattle.std.specs.Prelude.{◌≡◌, ◌+◌, ◌≤◌, length, get_or};
@@ -11,10 +13,7 @@ use layout::RECORD_WORDS;
 fn is_present(t: &[u32], p: usize) -> bool
     ensures { result ≡ present t.now p }
 {
-    if !soundness::is_sound(t) {
-        return false;
-    }
-    p < layout::count_of(t) as usize
+    soundness::is_sound(t) && p < layout::count_of(t) as usize
 }
 
 // The entry of the row that begins at a place, 0 at or beyond n.
@@ -22,11 +21,8 @@ fn entry(t: &[u32], at: usize, o: usize) -> u32
     requires { Sound t.now × (at + nodes_most ≤ length t.now) }
     ensures { result ≡ get_or (part at (count t.now) t.now) o 0 }
 {
-    if o < layout::count_of(t) as usize {
-        t[at + o]
-    } else {
-        0
-    }
+    let n = layout::count_of(t) as usize;
+    t[at..at + n].get(o).copied().unwrap_or(0)
 }
 
 // A node's summary entry for an origin, on columns that of its own column.

@@ -1,127 +1,93 @@
-// Why a line is refused, and where, each clause asked in the order of documents 01 and 02 (T-01). The other way than that of `quick`.
+// Why a line is refused, and where, each clause asked in its order. The other way than that of `quick`.
 #![tactic(auto)]
 
 ghost use Rattle.std.specs.Prelude.{◌≡◌, true, not, [], ◌∷◌, ◌%◌, ◌<◌, length};
+ghost use Rattle.std.specs.Result.{result_err};
 ghost use Rattle.meaning.specs.Refusals.{test_at};
 ghost use Rattle.meaning.specs.Frames.{all_digits, fault_of, line_fault};
+ghost use Rattle.faults.specs.Faults.{Settles};
 
 use digits::{stray_at, total};
-use meaning::Fault;
+use heads::kinds::Kind;
+use meaning::{Fault, Refusal};
 use numbers::byte;
 
 mod kinds;
 
-// The number of each clause: "a character is not 0 to 9 or A to F"; "18 no digits or odd, 11 [the kind is unknown], 19 wrong length, 20 outcome
-// above 3"; "the sum is not zero"; "a start's n is not 2 to 16".
-const STRAY: u32 = 12;
-
-const ODD: u32 = 18;
-
-const NONE: u32 = 18;
-
-const UNKNOWN: u32 = 11;
-
-const SHORT: u32 = 19;
-
-const SURPLUS: u32 = 19;
-
-const OUTCOME: u32 = 20;
-
-const SUM: u32 = 13;
-
-const START: u32 = 15;
-
-// The places that no line changes: the kind's first digit, the outcome's, and that of a wrong start, "for 15 place 0".
-const KIND_AT: usize = 0;
-
+// The place of an outcome's first digit, which no line changes.
 const OUTCOME_AT: usize = 22;
 
-const START_AT: usize = 0;
-
-// The refusal of a line that has its kind's length, told the place of its check byte; two zeros for none.
-fn late(above: bool, sums: bool, wrong: bool, check: usize) -> Fault
-    ensures { result ≡ fault_of (test_at 20 22 above ∷ test_at 13 check (not sums) ∷ test_at 15 0 wrong ∷ []) }
+// What is wrong with a line that has its kind's length, told the place of its check byte.
+#[tactic(auto, unfolding(meaning::specs::Refusals::first, meaning::specs::Refusals::first_place, meaning::specs::Refusals::refusal_of))]
+fn late(above: bool, sums: bool, wrong: bool, check: usize) -> Result<(), Fault>
+    ensures { result_err result ≡ fault_of (test_at 20 22 above ∷ test_at 13 check (not sums) ∷ test_at 15 0 wrong ∷ []) }
 {
     if above {
-        return Fault {
-            number: OUTCOME,
+        return Err(Fault {
+            refusal: Refusal::LineOutcome,
             place: OUTCOME_AT,
-        };
+        });
     }
     if !sums {
-        return Fault {
-            number: SUM,
+        return Err(Fault {
+            refusal: Refusal::SumWrong,
             place: check,
-        };
+        });
     }
     if wrong {
-        return Fault {
-            number: START,
-            place: START_AT,
-        };
+        return Err(Fault::from(Refusal::StartWrong));
     }
-    Fault {
-        number: 0,
-        place: 0,
-    }
+    Ok(())
 }
 
-// The refusal of a line of digits, some and even in number.
-fn spelled(s: &[u8]) -> Fault
+// The kind of a line of digits, some and even in number, or what is wrong with it. A wrong kind is told at place 0, its first digit.
+fn spelled(s: &[u8]) -> Result<Kind, Fault>
     requires { (all_digits s.now ≡ true) × (length s.now % 2 ≡ 0) × (0 < length s.now) }
-    ensures { result ≡ line_fault s.now }
+    ensures { Settles s.now result }
 {
-    let kind = byte(s, 0);
-    let due = kinds::length_of(kind);
-    if due == 0 {
-        return Fault {
-            number: UNKNOWN,
-            place: KIND_AT,
-        };
-    }
-    if s.len() < due {
-        return Fault {
-            number: SHORT,
-            place: s.len(),
-        };
-    }
-    if due < s.len() {
-        return Fault {
-            number: SURPLUS,
-            place: due,
-        };
+    let kind = Kind::try_from(byte(s, 0))?;
+    let due = kind.digits();
+    if s.len() != due {
+        return Err(Fault {
+            refusal: Refusal::LengthWrong,
+            place: s.len().min(due),
+        });
     }
     late(
         kinds::outcome_above(s, kind),
-        total(s) == 0,
+        total(s) == Some(0),
         kinds::start_wrong(s, kind),
         due - 2,
-    )
+    )?;
+    Ok(kind)
 }
 
-// The refusal of any line, the first that applies, with its place; two zeros for none.
-pub fn refusal(s: &[u8]) -> Fault
-    ensures { result ≡ line_fault s.now }
+// The kind of any line that is accepted, or what is wrong with it: the first refusal that applies, with its place.
+pub fn settle(s: &[u8]) -> Result<Kind, Fault>
+    ensures { Settles s.now result }
 {
     let long = s.len();
-    let stray = stray_at(s);
-    if stray < long {
-        return Fault {
-            number: STRAY,
+    if let Some(stray) = stray_at(s) {
+        return Err(Fault {
+            refusal: Refusal::DigitStray,
             place: stray,
-        };
+        });
     }
     if long % 2 == 1 {
-        return Fault {
-            number: ODD,
+        return Err(Fault {
+            refusal: Refusal::DigitsOdd,
             place: long,
-        };
+        });
     }
     if long == 0 {
-        return Fault {
-            number: NONE,
-            place: 0,
-        };
+        return Err(Fault::from(Refusal::DigitsOdd));
     }
     spelled(s)
+}
+
+// What is wrong with any line, none where it is accepted.
+pub fn refusal(s: &[u8]) -> Option<Fault>
+    ensures { result ≡ line_fault s.now }
+{
+    settle(s).err()
 }

@@ -1,13 +1,16 @@
 -- The finder's answer by the tests that led to it, and what each answer says of the line.
 use mathlib.Core.Path.{◌≡◌, refl, sym, ap, ◌∙◌}
 use mathlib.Core.Bool.{Bool, true, false, not, cond}
-use mathlib.Core.List.{List, []}
+use mathlib.Core.List.{List, [], ◌∷◌}
 use Prim.Native.Nat.{ℕ, ◌+◌, ◌-◌, ◌≤◌, ◌<◌}
 use native.Mathlib.Omega.{arith}
 use lib.Dec.{leb, ltb}
 use lib.ListN.{length, take, drop, length-drop}
+use Rattle.std.specs.Prelude.{Some, None, ◌||◌, eqb}
+use Rattle.std.specs.List.{position, position_from}
+use Rattle.std.proofs.lemmas.Iterator.Adapters.{position_from-zero}
 use borrow.Author.Tests.{leb-true, leb-false, lt-ltb, le-leb, lt-leb, not-true, not-false}
-use Rattle.meaning.specs.Journals.{until_lf, has_lf, unended, line_at, place_after}
+use Rattle.meaning.specs.Journals.{unless_lf, until_lf, has_lf, unended, line_at, place_after}
 use Rattle.meaning.proofs.JournalLaws.{has-none, until_front, until_short, line_ended, line_none, ended, not_ended}
 use Rattle.meaning.proofs.RowLaws.{and_right}
 use Rattle.finder.specs.declared.Found.TheVariants.{Line, Unended, Over}
@@ -24,6 +27,42 @@ found_unended s at h e = rw (lt-leb (length s) at h, not_ended s at h e)
 pub found_line : (s : List ℕ) (at i : ℕ) → at < length s → has_lf (drop at s) ≡ true → at + length (until_lf (drop at s)) ≡ i → Line i ≡ found_at s at
 unfolding found_at
 found_line s at i h e p = rw (lt-leb (length s) at h, ended s at e, line_ended s at e) (ap Line (sym p))
+
+-- the search for an LF: the place of the first, by how far off it is
+is_lf_from : (i : ℕ) (xs : List ℕ) → position_from (λ c. eqb c 10) i xs ≡ cond (has_lf xs) (Some (i + length (until_lf xs))) None
+unfolding has_lf until_lf
+is_lf_from i [] = refl
+is_lf_from i (c ∷ cs) = go (eqb c 10) (is_lf_from (i + 1) cs)
+  where
+    go : (b : Bool) → position_from (λ d. eqb d 10) (i + 1) cs ≡ cond (has_lf cs) (Some ((i + 1) + length (until_lf cs))) None
+        → cond b (Some i) (position_from (λ d. eqb d 10) (i + 1) cs) ≡ cond (b || has_lf cs) (Some (i + length (unless_lf b c (until_lf cs)))) None
+    go true h =
+        let e : i ≡ i + length {A = ℕ} [] = omega arith in
+        ap Some e
+    go false h =
+        let e : (i + 1) + length (until_lf cs) ≡ i + length (c ∷ until_lf cs) = omega arith in
+        h ∙ ap (λ (n : ℕ). cond (has_lf cs) (Some n) None) e
+
+is_lf_at : (xs : List ℕ) → position (λ c. eqb c 10) xs ≡ cond (has_lf xs) (Some (length (until_lf xs))) None
+is_lf_at xs =
+    let e : 0 + length (until_lf xs) ≡ length (until_lf xs) = omega arith in
+    position_from-zero (λ c. eqb c 10) xs ∙ is_lf_from 0 xs ∙ ap (λ (n : ℕ). cond (has_lf xs) (Some n) None) e
+
+pub found_some : (s xs : List ℕ) (at i : ℕ) → at < length s → xs ≡ drop at s → position (λ c. eqb c 10) xs ≡ Some i → Line (at + i) ≡ found_at s at
+found_some s xs at i h d p = go (has_lf (drop at s)) refl (sym (is_lf_at (drop at s)) ∙ ap (position (λ c. eqb c 10)) (sym d) ∙ p)
+  where
+    go : (b : Bool) → has_lf (drop at s) ≡ b → cond b (Some (length (until_lf (drop at s)))) None ≡ Some i → Line (at + i) ≡ found_at s at
+    go true e q =
+        let is : length (until_lf (drop at s)) ≡ i = cc in
+        found_line s at (at + i) h e (omega arith)
+    go false e q = cc
+
+pub found_none : (s xs : List ℕ) (at : ℕ) → at < length s → xs ≡ drop at s → position (λ c. eqb c 10) xs ≡ None → Unended ≡ found_at s at
+found_none s xs at h d p = go (has_lf (drop at s)) refl (sym (is_lf_at (drop at s)) ∙ ap (position (λ c. eqb c 10)) (sym d) ∙ p)
+  where
+    go : (b : Bool) → has_lf (drop at s) ≡ b → cond b (Some (length (until_lf (drop at s)))) None ≡ None → Unended ≡ found_at s at
+    go true e q = cc
+    go false e q = found_unended s at h e
 
 -- what is known of a line that was found: it lies within, and the part between is the definition's line
 pub record Ended (s : List ℕ) (at end : ℕ) : Type 0 where

@@ -1,5 +1,4 @@
-// Each kind's frame written into lent bytes that have room for it, by its fields, as numbers. Document 01, "Frames and journals".
-// Inner functions: what they require, the writers show.
+// Each kind's frame written into lent bytes that have room for it, by its fields, as numbers. Inner functions: what they require, the writers show.
 #![tactic(auto)]
 
 ghost use Rattle.std.specs.Prelude.{◌≡◌, [], ◌∷◌, ◌≤◌, length};
@@ -10,61 +9,56 @@ ghost use Rattle.meaning.specs.Frames.{widths, packed, sealed, frame_of, frame};
 use fields::{put_frame, put_line, seal, split};
 use spelling::spell;
 
-// The frame of a kind with one byte: a start, a purge or a delivery.
+// The frame of a kind with one byte: a start, a purge or a delivery. The kind is a byte that is written, and selects nothing.
+#[tactic(auto, using(crate::proofs::WriteLaws::short_frame))]
 pub fn put_short(out: &mut [u8], kind: u8, n: u8)
     requires { (widths kind ≡ 1 ∷ []) × (7 ≤ length out.old) }
     ensures { out.new ≡ place 0 (frame_of kind (n ∷ [])) out.old }
 {
     let mut b = [kind, n, 0];
-    seal(&mut b[..], 2);
-    let mut d = [0u8; 6];
-    spell(&b[..], &mut d[..]);
-    put_line(out, &d[..], 6);
+    seal(&mut b);
+    let mut d = [0; 6];
+    spell(&b, &mut d);
+    put_line(out, &d);
 }
 
-// The bytes of a write's frame, from place 0.
-fn fill_write(b: &mut [u8], node: u8, timestamp: u32, block: u32, verdict: u8)
-    requires { 12 ≤ length b.old }
-    ensures { b.new ≡ place 0 (sealed (1 ∷ packed (widths 1) (node ∷ timestamp ∷ block ∷ verdict ∷ []))) b.old }
+// The bytes of a write's frame. A write's fields and a session's go one by one, since a step built in memory only to be read back costs a frame a
+// third to a half of its time (docs/DECISIONS.md, "By fields for C").
+fn write_bytes(node: u8, timestamp: u32, block: u32, verdict: u8) -> [u8; 12]
+    ensures { result ≡ sealed (1 ∷ packed (widths 1) (node ∷ timestamp ∷ block ∷ verdict ∷ [])) }
 {
-    b[0] = 1;
-    b[1] = node;
-    split(b, 2, timestamp);
-    split(b, 6, block);
-    b[10] = verdict;
-    seal(b, 11);
+    let mut write = [1, node, 0, 0, 0, 0, 0, 0, 0, 0, verdict, 0];
+    split(&mut write, 2, timestamp);
+    split(&mut write, 6, block);
+    seal(&mut write);
+    write
 }
 
-// The frame of a write: 12 bytes, in an array of 24 as `put_frame` has it.
+// The frame of a write.
+#[tactic(auto, unfolding(meaning::specs::Frames::frame, meaning::specs::Frames::frame_in))]
 pub fn put_write(out: &mut [u8], node: u8, timestamp: u32, block: u32, verdict: u8)
     requires { 25 ≤ length out.old }
     ensures { out.new ≡ place 0 (frame (Write node timestamp block verdict)) out.old }
 {
-    let mut b = [0u8; 24];
-    fill_write(&mut b[..], node, timestamp, block, verdict);
-    put_frame(out, &b[..], 12);
+    put_frame(out, &write_bytes(node, timestamp, block, verdict));
 }
 
-// The bytes of a session's frame, from place 0.
-fn fill_session(s: &mut [u8], a: u8, b: u8, ca: u32, cb: u32, outcome: u8)
-    requires { 13 ≤ length s.old }
-    ensures { s.new ≡ place 0 (sealed (2 ∷ packed (widths 2) (a ∷ b ∷ ca ∷ cb ∷ outcome ∷ []))) s.old }
+// The bytes of a session's frame.
+fn session_bytes(a: u8, b: u8, ca: u32, cb: u32, outcome: u8) -> [u8; 13]
+    ensures { result ≡ sealed (2 ∷ packed (widths 2) (a ∷ b ∷ ca ∷ cb ∷ outcome ∷ [])) }
 {
-    s[0] = 2;
-    s[1] = a;
-    s[2] = b;
-    split(s, 3, ca);
-    split(s, 7, cb);
-    s[11] = outcome;
-    seal(s, 12);
+    let mut session = [2, a, b, 0, 0, 0, 0, 0, 0, 0, 0, outcome, 0];
+    split(&mut session, 3, ca);
+    split(&mut session, 7, cb);
+    seal(&mut session);
+    session
 }
 
-// The frame of a session: 13 bytes, in an array of 24 as `put_frame` has it.
+// The frame of a session.
+#[tactic(auto, unfolding(meaning::specs::Frames::frame, meaning::specs::Frames::frame_in))]
 pub fn put_session(out: &mut [u8], a: u8, b: u8, ca: u32, cb: u32, outcome: u8)
     requires { 27 ≤ length out.old }
     ensures { out.new ≡ place 0 (frame (Session a b ca cb outcome)) out.old }
 {
-    let mut s = [0u8; 24];
-    fill_session(&mut s[..], a, b, ca, cb, outcome);
-    put_frame(out, &s[..], 13);
+    put_frame(out, &session_bytes(a, b, ca, cb, outcome));
 }

@@ -4,20 +4,11 @@ use mathlib.Core.Bool.{Bool, true, false}
 use Prim.Native.Nat.{ℕ, ◌+◌, ◌-◌, ◌*◌, ◌/◌, ◌%◌, ◌≤◌, ◌<◌}
 use native.Mathlib.Omega.{arith}
 use lib.Dec.{ltb, eqb}
-use borrow.Author.Tests.{ltb-true, lt-ltb, le-ltb, eqb-true, eqb-false, eq-eqb}
+use borrow.Author.Tests.{ltb-true, lt-ltb, eqb-true, eqb-false, eq-eqb}
 use Rattle.meaning.specs.Frames.{digit, digit_value}
 use Rattle.meaning.proofs.RowLaws.{and_left, and_right}
 use Rattle.meaning.proofs.FrameInverses.{digit_value-digit, digit-digit_value}
 use Rattle.heads.specs.Heads.{is_check}
-
--- the digit of a number
-pub digit_low : (v z : ℕ) → v < 10 → z ≡ 48 → z + v ≡ digit v
-unfolding digit
-digit_low v z h e = cc (lt-ltb v 10 h, e)
-
-pub digit_high : (v z : ℕ) → 10 ≤ v → z ≡ 55 → z + v ≡ digit v
-unfolding digit
-digit_high v z h e = cc (le-ltb v 10 h, e)
 
 -- two characters that bring a sum to zero
 module _ (sum high low last : ℕ) (small : sum ≤ 512) (is : last ≡ (512 - sum) % 256) where

@@ -4,3 +4,4 @@ pub mod HeadLaws
 pub mod OneReply
 pub mod QuickLaws
 pub mod SaidLaws
+pub mod KindLaws

@@ -2,12 +2,12 @@
 use mathlib.Core.Path.{◌≡◌, refl, sym, ◌∙◌, ap}
 use mathlib.Core.Bool.{Bool, true, false, not, ◌&&◌, ◌||◌, cond, true≢false}
 use mathlib.Core.List.{List, [], ◌∷◌}
-use Prim.Native.Nat.{ℕ, ◌+◌, ◌-◌, ◌*◌, ◌/◌, ◌%◌, ◌≤◌, ◌<◌}
+use Prim.Native.Nat.{ℕ, ◌+◌, ◌-◌, ◌*◌, ◌%◌, ◌≤◌, ◌<◌}
 use native.Mathlib.Omega.{arith}
 use lib.Bits.{bit_or, or_lt}
 use lib.ListN.{length, get_or, take, drop, length-drop}
 use lib.Seq.{take_all}
-use lib.Dec.{leb, ltb, eqb}
+use lib.Dec.{leb, eqb}
 use borrow.Author.Tests.{ltb-false, lt-ltb, le-ltb, le-leb, leb-true, eqb-true, eqb-false, eq-eqb, ne_eqb, not-false}
 use Rattle.meaning.specs.Table.{count_right}
 use Rattle.meaning.specs.Frames.{
@@ -27,19 +27,7 @@ use Rattle.meaning.specs.Frames.{
   start_wrong,
 }
 use Rattle.meaning.proofs.RowLaws.{and_left, and_right}
-use Rattle.meaning.proofs.FrameLaws.{
-  digit-decimal,
-  length-bytes_of,
-  byte_at,
-  digits_at,
-  digits_cons,
-  total_below,
-  kind_cases,
-  Good,
-  good,
-  count_right_lem,
-  count_wrong,
-}
+use Rattle.meaning.proofs.FrameLaws.{digit-decimal, length-bytes_of, byte_at, digits_at, digits_cons, total_below, Good, good}
 use Rattle.meaning.proofs.FrameInverses.{digit-digit_value}
 use Rattle.digits.specs.Digits.{sum_of}
 use Rattle.heads.specs.Heads.{is_check}
@@ -48,9 +36,16 @@ use Rattle.meaning.proofs.BitLaws.{or_left, or_right}
 use Rattle.numbers.proofs.NumberLaws.{byte_field}
 use Rattle.digits.proofs.DigitLaws.{sum_right, sum_digits}
 use Rattle.heads.proofs.CheckLaws.{check_digits, check_right}
-use Rattle.heads.specs.Heads.{accepted, no_line, short_of, may_hold, is_outcome}
+use Rattle.std.specs.Prelude.{Option, Some, None, is_some}
+use Rattle.heads.specs.declared.Short.{Short}
+use Rattle.heads.specs.Heads.{accepted, held, short_of, may_hold, is_outcome}
 use Rattle.heads.proofs.FieldLaws.{kind_lengths, start_test, start_other, outcome_test, outcome_other}
 use Rattle.heads.proofs.HeadLaws.{accepted_good, accepted_is, accepted_not, six}
+
+-- what a line holds as one number
+abbrev pub packed : Option Short → ℕ
+packed None = 65536
+packed (Some x) = 256 * x.kind + x.field
 
 -- a decimal digit's character
 pub char_of : (c v : ℕ) → digit_value c ≡ v → v ≤ 9 → c ≡ 48 + v
@@ -117,11 +112,11 @@ module _ (l : List ℕ) (long : length l ≡ 24) where
   pub write_is : get_or l 0 0 ≡ 48 → get_or l 1 0 ≡ 49 → line_kind (bytes_of l) ≡ 1
   write_is p q = kind_chars l (omega arith) 1 (omega arith) p q
 
-  pub write_good : get_or l 0 0 ≡ 48 → get_or l 1 0 ≡ 49 → 0 ≡ sum_of l → Good l
+  pub write_good : get_or l 0 0 ≡ 48 → get_or l 1 0 ≡ 49 → Some 0 ≡ sum_of l → Good l
   unfolding known_in digits_in widths_in journal_kinds
   write_good p q e =
       let is = write_is p q in
-      let sums = sum_digits l 0 e (omega arith) in
+      let sums = sum_digits l 0 e in
       record {
         digits = sums.0;
         has_kind = ap known is;
@@ -131,7 +126,7 @@ module _ (l : List ℕ) (long : length l ≡ 24) where
         start = start_other l 1 is (omega arith);
       }
 
-  pub good_write : Good l → (get_or l 0 0 ≡ 48) × (get_or l 1 0 ≡ 49) × (0 ≡ sum_of l)
+  pub good_write : Good l → (get_or l 0 0 ≡ 48) × (get_or l 1 0 ≡ 49) × (Some 0 ≡ sum_of l)
   good_write g =
       let chars = chars_kind l (omega arith) 1 (omega arith) (kind_24 l g long) in
       (chars.0, chars.1, sum_right l 0 g.digits (sym g.sum))
@@ -162,11 +157,11 @@ module _ (l : List ℕ) (long : length l ≡ 26) where
   pub outcome_is : 16 * digit_value (get_or l 22 0) + digit_value (get_or l 23 0) ≡ field_at l 11 1
   outcome_is = byte_field l 11 (omega arith)
 
-  pub session_good : get_or l 0 0 ≡ 48 → get_or l 1 0 ≡ 50 → field_at l 11 1 ≤ 3 → 254 ≡ sum_of (drop 2 l) → Good l
+  pub session_good : get_or l 0 0 ≡ 48 → get_or l 1 0 ≡ 50 → field_at l 11 1 ≤ 3 → Some 254 ≡ sum_of (drop 2 l) → Good l
   unfolding known_in digits_in widths_in journal_kinds
   session_good p q o e =
       let is = session_is p q in
-      let sums = sum_digits (drop 2 l) 254 e (omega arith) in
+      let sums = sum_digits (drop 2 l) 254 e in
       let high = value_char (get_or l 0 0) 0 p (omega arith) in
       let low = value_char (get_or l 1 0) 2 q (omega arith) in
       record {
@@ -178,7 +173,7 @@ module _ (l : List ℕ) (long : length l ≡ 26) where
         start = start_other l 2 is (omega arith);
       }
 
-  pub good_session : Good l → (get_or l 0 0 ≡ 48) × (get_or l 1 0 ≡ 50) × (field_at l 11 1 ≤ 3) × (254 ≡ sum_of (drop 2 l))
+  pub good_session : Good l → (get_or l 0 0 ≡ 48) × (get_or l 1 0 ≡ 50) × (field_at l 11 1 ≤ 3) × (Some 254 ≡ sum_of (drop 2 l))
   good_session g =
       let is = kind_26 l g long in
       let chars = chars_kind l (omega arith) 2 (omega arith) is in
@@ -190,7 +185,7 @@ module _ (l : List ℕ) (long : length l ≡ 26) where
         sum_right (drop 2 l) 254 (digits_after l g.digits) rest,
       )
 
--- an accepted line shorter than a write's has six characters, and holds less than no_line
+-- an accepted line shorter than a write's has six characters
 module _ (l : List ℕ) (g : Good l) where
   pub short_six : length l < 24 → length l ≡ 6
   short_six small =
@@ -201,42 +196,43 @@ module _ (l : List ℕ) (g : Good l) where
   field_small six_long =
       omega (arith, byte_field l 1 (omega arith), digits_at l 2 g.digits (omega arith), digits_at l 3 g.digits (omega arith))
 
-  kind_small : line_kind (bytes_of l) ≤ 255
-  kind_small = kind_cases (λ (m : ℕ). m ≤ 255) (omega arith) (omega arith) (omega arith) (omega arith) (omega arith) (line_kind (bytes_of l)) g.has_kind
-
-  pub held_small : length l < 24 → 256 * line_kind (bytes_of l) + field_at l 1 1 < no_line
-  held_small small = omega (arith, kind_small, field_small (short_six small))
-
 -- what a line of six characters holds
 module _ (l : List ℕ) where
-  pub short_none : (Good l → ⊥) → no_line ≡ short_of l
+  pub short_none : (Good l → ⊥) → None ≡ short_of l
   unfolding short_of
   short_none h = cc (accepted_not l h)
 
-  pub short_some : (x : ℕ) → Good l → x ≡ 256 * line_kind (bytes_of l) + field_at l 1 1 → x ≡ short_of l
+  pub short_some : Good l → Some (held l) ≡ short_of l
   unfolding short_of
-  short_some x g e = e ∙ cc (accepted_is l g)
+  short_some g = cc (accepted_is l g)
 
-  module _ (x : ℕ) (e : x ≡ short_of l) where
-    pub short_tells : x < no_line → Good l × (x ≡ 256 * line_kind (bytes_of l) + field_at l 1 1)
-    unfolding short_of
-    short_tells h = go (accepted l) refl e
-      where
-        go : (b : Bool) → accepted l ≡ b → x ≡ cond b (256 * line_kind (bytes_of l) + field_at l 1 1) no_line
-            → Good l × (x ≡ 256 * line_kind (bytes_of l) + field_at l 1 1)
-        go true p q = (accepted_good l p, q)
-        go false p q = absurd (omega arith)
+  pub short_tells : (x : Short) → Some x ≡ short_of l → Good l × (x ≡ held l)
+  unfolding short_of
+  short_tells x e = go (accepted l) refl e
+    where
+      go : (b : Bool) → accepted l ≡ b → Some x ≡ cond b (Some (held l)) None → Good l × (x ≡ held l)
+      go true p q = (accepted_good l p, cc)
+      go false p q = cc
 
-    pub short_sure : length l < 24 → ltb x no_line ≡ accepted l
-    unfolding short_of
-    short_sure small = go (accepted l) refl e
-      where
-        go : (b : Bool) → accepted l ≡ b → x ≡ cond b (256 * line_kind (bytes_of l) + field_at l 1 1) no_line → ltb x no_line ≡ b
-        go true p q = lt-ltb x no_line (omega (arith, held_small l (accepted_good l p) small))
-        go false p q = le-ltb x no_line (omega arith)
+  pub short_sure : is_some (short_of l) ≡ accepted l
+  unfolding short_of
+  short_sure = go (accepted l)
+    where
+      go : (b : Bool) → is_some (cond b (Some (held l)) None) ≡ b
+      go true = refl
+      go false = refl
 
-    pub short_refused : no_line ≤ x → length l < 24 → Good l → ⊥
-    short_refused h small g = true≢false (sym (accepted_is l g) ∙ sym (short_sure small) ∙ le-ltb x no_line h)
+  pub short_refused : None ≡ short_of l → Good l → ⊥
+  short_refused e g = true≢false (sym (accepted_is l g) ∙ sym short_sure ∙ ap is_some (sym e))
+
+  -- the same as one number: 256 times the kind and the field, above any such number for none
+  pub short_number : packed (short_of l) ≡ cond (accepted l) (256 * line_kind (bytes_of l) + field_at l 1 1) 65536
+  unfolding short_of
+  short_number = go (accepted l)
+    where
+      go : (b : Bool) → packed (cond b (Some (held l)) None) ≡ cond b (256 * line_kind (bytes_of l) + field_at l 1 1) 65536
+      go true = refl
+      go false = refl
 
 -- a line of six characters: the kind's two, the field's two, and the check byte's as they must be
 module _ (a b c d e f : ℕ) where
@@ -365,19 +361,20 @@ module _ (a b c d e f : ℕ) where
           start_right k is count false x = start_other line k is (eqb-false k 0 x)
 
   -- and what it then holds
-  pub six_held : Asked → 256 * (b - 48) + (16 * digit_value c + digit_value d) ≡ short_of (six a b c d e f)
+  pub six_held : Asked → Some (record { kind = b - 48; field = 16 * digit_value c + digit_value d }) ≡ short_of (six a b c d e f)
   unfolding line n
   six_held p =
       let g = six_good p in
-      let held = held_of g (line_kind (bytes_of line)) refl g.has_kind (sym long ∙ g.long) in
-      short_some (six a b c d e f) (256 * (b - 48) + (16 * digit_value c + digit_value d)) g (omega (arith, field_is, kind_of_six, held.2))
+      let told = held_of g (line_kind (bytes_of line)) refl g.has_kind (sym long ∙ g.long) in
+      let kind_is : b - 48 ≡ line_kind (bytes_of line) = omega (arith, kind_of_six, told.2) in
+      ap Some (λ i. record { kind = kind_is i; field = sym field_is i }) ∙ short_some (six a b c d e f) g
 
 -- the tests of a line of six characters, in the order that they are made
-pub short_first : (a b c d e f : ℕ) → (a ≡ 48 → ⊥) → no_line ≡ short_of (six a b c d e f)
+pub short_first : (a b c d e f : ℕ) → (a ≡ 48 → ⊥) → None ≡ short_of (six a b c d e f)
 short_first a b c d e f h = short_none (six a b c d e f) (λ g. h (good_six a b c d e f g).0)
 
 module _ (a b c d e f h l : ℕ) (p : h ≡ digit_value c) (q : l ≡ digit_value d) where
-  pub short_stray : 15 < bit_or h l → no_line ≡ short_of (six a b c d e f)
+  pub short_stray : 15 < bit_or h l → None ≡ short_of (six a b c d e f)
   short_stray s =
       short_none (six a b c d e f) (λ g.
       let asked = good_six a b c d e f g in
@@ -387,48 +384,24 @@ module _ (a b c d e f h l : ℕ) (p : h ≡ digit_value c) (q : l ≡ digit_valu
   sum_is : 16 * h + l ≡ 16 * digit_value c + digit_value d
   sum_is = omega arith
 
-  pub short_unheld : may_hold b (16 * h + l) ≡ false → no_line ≡ short_of (six a b c d e f)
+  pub short_unheld : may_hold b (16 * h + l) ≡ false → None ≡ short_of (six a b c d e f)
   short_unheld s = short_none (six a b c d e f) (λ g. true≢false (sym (good_six a b c d e f g).3 ∙ ap (may_hold b) (sym sum_is) ∙ s))
 
-  pub short_unchecked : is_check (b - 48 + (16 * h + l)) e f ≡ false → no_line ≡ short_of (six a b c d e f)
+  pub short_unchecked : is_check (b - 48 + (16 * h + l)) e f ≡ false → None ≡ short_of (six a b c d e f)
   short_unchecked s =
       short_none (six a b c d e f) (λ g.
       true≢false (sym (good_six a b c d e f g).4 ∙ ap (λ (n : ℕ). is_check (b - 48 + n) e f) (sym sum_is) ∙ s))
 
   pub short_right : a ≡ 48 → bit_or h l ≤ 15 → may_hold b (16 * h + l) ≡ true → is_check (b - 48 + (16 * h + l)) e f ≡ true
-      → 256 * (b - 48) + (16 * h + l) ≡ short_of (six a b c d e f)
+      → Some (record { kind = b - 48; field = 16 * h + l }) ≡ short_of (six a b c d e f)
   short_right x s t u =
       let high = or_left 16 h l (omega arith) in
       let low = or_right 16 h l (omega arith) in
       let held = ap (may_hold b) (sym sum_is) ∙ t in
       let check = ap (λ (n : ℕ). is_check (b - 48 + n) e f) (sym sum_is) ∙ u in
-      ap (λ (n : ℕ). 256 * (b - 48) + n) sum_is ∙ six_held a b c d e f (x, omega arith, omega arith, held, check)
+      ap (λ (n : ℕ). Some (record { kind = b - 48; field = n })) sum_is ∙ six_held a b c d e f (x, omega arith, omega arith, held, check)
 
--- a purge's, a delivery's or a start's field
-pub hold_purge : (k n : ℕ) → k ≡ 51 → true ≡ may_hold k n
-unfolding may_hold
-hold_purge k n e = cc (eq-eqb k 51 e)
-
-pub hold_delivery : (k n : ℕ) → (k ≡ 51 → ⊥) → k ≡ 53 → true ≡ may_hold k n
-unfolding may_hold
-hold_delivery k n h e = cc (ne_eqb k 51 h, eq-eqb k 53 e)
-
-pub hold_start : (k n : ℕ) → (k ≡ 51 → ⊥) → (k ≡ 53 → ⊥) → 2 ≤ n → n ≤ 16 → eqb k 48 ≡ may_hold k n
-unfolding may_hold
-hold_start k n h d p q = go (eqb k 48) refl
-  where
-    go : (b : Bool) → eqb k 48 ≡ b → b ≡ (eqb k 51 || (eqb k 53 || (b && count_right n)))
-    go true e = cc (ne_eqb k 51 h, ne_eqb k 53 d, count_right_lem n p q)
-    go false e = cc (ne_eqb k 51 h, ne_eqb k 53 d)
-
-pub hold_none : (k n : ℕ) → (k ≡ 51 → ⊥) → (k ≡ 53 → ⊥) → (2 ≤ n → n ≤ 16 → ⊥) → false ≡ may_hold k n
-unfolding may_hold
-hold_none k n h d p = go (eqb k 48) refl
-  where
-    go : (b : Bool) → eqb k 48 ≡ b → false ≡ (eqb k 51 || (eqb k 53 || (b && count_right n)))
-    go true e = cc (ne_eqb k 51 h, ne_eqb k 53 d, count_wrong n p)
-    go false e = cc (ne_eqb k 51 h, ne_eqb k 53 d)
-
+-- the characters of a kind that may hold a field
 pub hold_char : (k n : ℕ) → may_hold k n ≡ true → (48 ≤ k) × (k ≤ 53)
 unfolding may_hold
 hold_char k n h = go (eqb k 51) (eqb k 53) refl refl h
@@ -437,24 +410,6 @@ hold_char k n h = go (eqb k 51) (eqb k 53) refl refl h
     go true u x x' y = let e = eqb-true k 51 x in (omega arith, omega arith)
     go false true x x' y = let e = eqb-true k 53 x' in (omega arith, omega arith)
     go false false x x' y = let e = eqb-true k 48 (and_left (eqb k 48) (count_right n) y) in (omega arith, omega arith)
-
--- an outcome's characters, as they are asked for
-pub outcome_high : (h l : ℕ) → (h ≡ 48 → ⊥) → false ≡ is_outcome h l
-unfolding is_outcome
-outcome_high h l p = cc (ne_eqb h 48 p)
-
-pub outcome_in : (h l : ℕ) → h ≡ 48 → 48 ≤ l → l ≤ 51 → true ≡ is_outcome h l
-unfolding is_outcome
-outcome_in h l e p q = cc (eq-eqb h 48 e, le-leb 48 l p, le-leb l 51 q)
-
-pub outcome_out : (h l : ℕ) → h ≡ 48 → (48 ≤ l → l ≤ 51 → ⊥) → false ≡ is_outcome h l
-unfolding is_outcome
-outcome_out h l e p = go (leb 48 l) (leb l 51) refl refl
-  where
-    go : (s t : Bool) → leb 48 l ≡ s → leb l 51 ≡ t → false ≡ (eqb h 48 && (s && t))
-    go true true x y = absurd (p (leb-true 48 l x) (leb-true l 51 y))
-    go true false x y = cc (eq-eqb h 48 e)
-    go false t x y = cc (eq-eqb h 48 e)
 
 -- the characters after the kind's two
 pub rest_part : (l : List ℕ) → length l ≡ 26 → take 24 (drop 2 l) ≡ drop 2 l
@@ -465,17 +420,16 @@ pub other_refused : (l : List ℕ) → 24 ≤ length l → (length l ≡ 24 → 
 other_refused l h p q z = no_length l (good l z) (omega arith) p q
 
 -- a line shorter than a write's, by what it holds
-module _ (l : List ℕ) (x : ℕ) (e : x ≡ short_of l) (few : length l < 24) where
-  pub held_refused : no_line ≤ x → line_refusal l ≡ 0 → ⊥
-  held_refused h z = short_refused l x e h few (good l z)
+pub held_refused : (l : List ℕ) → None ≡ short_of l → line_refusal l ≡ 0 → ⊥
+held_refused l e z = short_refused l e (good l z)
 
-  module _ (h : x < no_line) where
-    pub held_six : length l ≡ 6
-    held_six = short_six l (short_tells l x e h).0 few
+module _ (l : List ℕ) (x : Short) (e : Some x ≡ short_of l) (few : length l < 24) where
+  pub held_six : length l ≡ 6
+  held_six = short_six l (short_tells l x e).0 few
 
-    pub held_kind : x / 256 ≡ line_kind (bytes_of l)
-    held_kind = let tells = short_tells l x e h in omega (arith, tells.1, field_small l tells.0 held_six)
+  pub held_kind : x.kind ≡ line_kind (bytes_of l)
+  held_kind = ap (λ (y : Short). y.kind) (short_tells l x e).1
 
-    -- its kind is none of another length
-    pub held_not : (k : ℕ) → (digits_of k ≡ 6 → ⊥) → line_kind (bytes_of l) ≡ k → ⊥
-    held_not k n z = n (sym (ap digits_of z) ∙ sym (short_tells l x e h).0.long ∙ held_six)
+  -- its kind is none of another length
+  pub held_not : (k : ℕ) → (digits_of k ≡ 6 → ⊥) → line_kind (bytes_of l) ≡ k → ⊥
+  held_not k n z = n (sym (ap digits_of z) ∙ sym (short_tells l x e).0.long ∙ held_six)

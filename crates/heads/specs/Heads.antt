@@ -1,22 +1,22 @@
 -- What the functions over a line answer: whether it is accepted, what a short line holds, its check byte, and the actions by the places of their fields.
-use Rattle.std.specs.Prelude.{◌≡◌, Bool, true, ◌&&◌, ◌||◌, cond, List, ℕ, ◌+◌, ◌*◌, ◌%◌, length, leb, ltb, eqb}
+use Rattle.std.specs.Prelude.{◌≡◌, Bool, true, ◌&&◌, ◌||◌, cond, List, Option, Some, None, ℕ, ◌+◌, ◌*◌, ◌%◌, length, leb, ltb, eqb}
 use Rattle.meaning.specs.declared.Action.{Action}
 use Rattle.meaning.specs.declared.Action.TheVariants.{Write, Session, Purge, Deliver}
 use Rattle.meaning.specs.Table.{count_right}
 use Rattle.meaning.specs.Frames.{digit_value, bytes_of, all_digits, known, digits_of, line_kind, line_refusal}
 use Rattle.numbers.specs.Numbers.{field_at}
+use Rattle.heads.specs.declared.Short.{Short}
 
 -- whether a line is accepted
 unfoldable pub accepted : List ℕ → Bool
 accepted l = eqb (line_refusal l) 0
 
--- what stands for a line that is refused: above 256 times any byte and a byte more
-abbrev pub no_line : ℕ
-no_line = 65536
+-- what an accepted line of six characters holds, its kind and its field; none where it is refused
+abbrev pub held : List ℕ → Short
+held l = record { kind = line_kind (bytes_of l); field = field_at l 1 1 }
 
--- what an accepted line of six characters holds, 256 times its kind and its field
-unfoldable pub short_of : List ℕ → ℕ
-short_of l = cond (accepted l) (256 * line_kind (bytes_of l) + field_at l 1 1) no_line
+unfoldable pub short_of : List ℕ → Option Short
+short_of l = cond (accepted l) (Some (held l)) None
 
 -- two characters are digits, and their byte brings this sum to zero
 unfoldable pub is_check : ℕ → ℕ → ℕ → Bool

@@ -1,5 +1,5 @@
 // A line of six characters, which can only be a start, a purge or a delivery: what it holds, sure in both directions. Beside it stand the laws of any
-// line that is accepted, by which `quick` tells the longer ones. Document 01, "Frames and journals"; document 02, T-04.
+// line that is accepted, by which `quick` tells the longer ones.
 #![tactic(auto)]
 
 ghost use Rattle.std.specs.Prelude.{◌≡◌, [], ◌∷◌, ◌≤◌, ◌<◌};
@@ -7,10 +7,18 @@ ghost use Rattle.meaning.specs.Frames.{digit_value, digit};
 ghost use Rattle.digits.specs.Digits.{letter_value};
 ghost use Rattle.heads.specs.Heads.{is_check, may_hold, short_of};
 
-// What stands for a refused line of six characters: above 256 times any byte and a byte more.
-pub const NO_LINE: u32 = 65536;
+pub mod kinds;
 
-// The number of a letter A to F, 16 for any other character; in a word.
+// What an accepted line of six characters holds. The kind is its number, since that is what C is answered.
+#[derive(Clone, Copy)]
+pub struct Short {
+    pub kind: u8,
+    pub field: u8,
+}
+
+// The number of a letter A to F, 16 for any other character. In a word, as `digits` has it in a byte: one function for both is a trait with these two
+// matches again, and bytes in place of words were slower here (0.92 to 0.96, docs/PERFORMANCE.md).
+#[tactic(auto, unfolding(digits::specs::Digits::letter_value))]
 fn wide_letter(c: u32) -> u32
     ensures { result ≡ letter_value c }
 {
@@ -21,6 +29,7 @@ fn wide_letter(c: u32) -> u32
 }
 
 // The number of a hexadecimal digit, 16 where the character is none; in a word, which is quicker where two are read one by one.
+#[tactic(auto, unfolding(digits::specs::Digits::letter_value, meaning::specs::Frames::digit_value))]
 fn wide_value(c: u32) -> u32
     ensures { result ≡ digit_value c }
 {
@@ -31,7 +40,9 @@ fn wide_value(c: u32) -> u32
     }
 }
 
-// The digit of a number below 16: "uppercase hexadecimal".
+// The digit of a number below 16: "uppercase hexadecimal". In a word, as `spelling` has it in a byte: each is slower in the other's (0.92 to 0.96 here,
+// 0.90 there, docs/PERFORMANCE.md).
+#[tactic(auto, unfolding(meaning::specs::Frames::digit))]
 fn digit_of(v: u32) -> u32
     requires { v < 16 }
     ensures { result ≡ digit v }
@@ -57,6 +68,7 @@ fn is_check(sum: u32, high: u8, low: u8) -> bool
 }
 
 // Whether a start, a purge or a delivery, told by its kind's second character, may have this field: a start's "n is 2 to 16", that of the others is any.
+#[tactic(auto, unfolding(crate::specs::Heads::may_hold, meaning::specs::Table::count_right))]
 fn may_hold(kind: u8, n: u32) -> bool
     ensures { result ≡ may_hold kind n }
 {
@@ -72,26 +84,31 @@ fn may_hold(kind: u8, n: u32) -> bool
     }
 }
 
-// What a line of six characters holds: 256 times its kind and its field, or NO_LINE. They are handed over in registers, which a slice is not;
-// their numbers are words, since a byte costs an instruction more for each choice.
-pub fn short_line(a: u8, b: u8, c: u8, d: u8, e: u8, f: u8) -> u32
+// What a line of six characters holds, none where it is refused. They are handed over in registers, which a slice is not; the digits' numbers are
+// words, since a byte costs an instruction more for each choice. It is compiled into its callers, so that no Option goes through memory.
+#[inline(always)]
+#[tactic(auto, using(std::proofs::lemmas::Nat::le_or_l, std::proofs::lemmas::Nat::le_or_r, crate::proofs::QuickLaws::hold_char))]
+pub fn short_line(a: u8, b: u8, c: u8, d: u8, e: u8, f: u8) -> Option<Short>
     ensures { result ≡ short_of (a ∷ b ∷ c ∷ d ∷ e ∷ f ∷ []) }
 {
     if a != b'0' {
-        return NO_LINE;
+        return None;
     }
     let h = wide_value(c as u32);
     let l = wide_value(d as u32);
     if 15 < h | l {
-        return NO_LINE;
+        return None;
     }
     let n = 16 * h + l;
     if !may_hold(b, n) {
-        return NO_LINE;
+        return None;
     }
-    let kind = b as u32 - 48;
-    if !is_check(kind + n, e, f) {
-        return NO_LINE;
+    let kind = b - b'0';
+    if !is_check(kind as u32 + n, e, f) {
+        return None;
     }
-    256 * kind + n
+    Some(Short {
+        kind,
+        field: n as u8,
+    })
 }

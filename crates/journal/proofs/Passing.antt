@@ -9,25 +9,30 @@ use lib.ListN.{length, get_or, take, drop, length-drop}
 use lib.Seq.{get_or-drop}
 use borrow.Author.Tests.{leb-false, eqb-true, eq-eqb}
 use Rattle.meaning.specs.declared.Step.{Step}
-use Rattle.meaning.specs.declared.Line.{Line as Said}
-use Rattle.meaning.specs.declared.Line.TheVariants.{Begin, Act, Refused}
-use Rattle.meaning.specs.declared.Next.{Next}
-use Rattle.meaning.specs.declared.Next.TheVariants.{Begin as BeginAt, Act as ActAt, Refused as RefusedAt, End}
-use Rattle.meaning.specs.Frames.{read_line}
-use Rattle.meaning.specs.Journals.{unless_lf, until_lf, has_lf, unended, line_at, place_after, in_turn, next_in}
+use Rattle.std.specs.Prelude.{Ok, Err, Some, None}
+use Rattle.meaning.specs.declared.Fault.{Fault}
+use Rattle.meaning.specs.declared.Refusal.TheVariants.{LineUnended}
+use Rattle.meaning.specs.declared.Said.TheVariants.{Begin, Act}
+use Rattle.meaning.specs.declared.NextLine.{NextLine}
+use Rattle.meaning.specs.declared.NextLine.TheVariants.{Begin as BeginAt, Act as ActAt}
+use Rattle.meaning.specs.Refusals.{refusal_of, fault}
+use Rattle.meaning.specs.Frames.{Line as Reads, read_line}
+use Rattle.meaning.specs.Journals.{Next, position, unless_lf, until_lf, has_lf, unended, line_at, place_after, in_turn, next_in}
 use Rattle.meaning.proofs.JournalLaws.{line_ended}
 use Rattle.finder.specs.declared.Found.TheVariants.{Line, Unended, Over}
 use Rattle.finder.specs.Found.{found_at}
 use Rattle.finder.proofs.Finding.{Ended, never, ended-has, ended_facts, line_facts, unended_facts, over_facts}
 
 -- what the reader finds, by what the finder found
-pub next_over : (first : Bool) (s : List ℕ) (at line : ℕ) → found_at s at ≡ Over → End ≡ next_in first s at line
+pub next_over : (first : Bool) (s : List ℕ) (at line : ℕ) → found_at s at ≡ Over → Ok None ≡ next_in first s at line
 unfolding next_in
 next_over first s at line e = rw (over_facts s at e)
 
-pub next_unended : (first : Bool) (s : List ℕ) (at line : ℕ) → found_at s at ≡ Unended → RefusedAt 14 (length s - at) ≡ next_in first s at line
-unfolding next_in
-next_unended first s at line e = rw ((unended_facts s at e).0, (unended_facts s at e).1) (ap (RefusedAt 14) (sym (length-drop at s)))
+pub next_unended : (first : Bool) (s : List ℕ) (at line : ℕ) → found_at s at ≡ Unended
+    → Err (record { refusal = LineUnended; place = length s - at }) ≡ next_in first s at line
+unfolding next_in refusal_of
+next_unended first s at line e =
+    rw ((unended_facts s at e).0, (unended_facts s at e).1) (ap (λ (p : ℕ). Err (record { refusal = LineUnended; place = p })) (sym (length-drop at s)))
 
 pub next_line : (first : Bool) (s : List ℕ) (at end line : ℕ) → found_at s at ≡ Line end
     → in_turn first (end + 1) (read_line line (take (end - at) (drop at s))) ≡ next_in first s at line
@@ -37,55 +42,55 @@ next_line first s at end line e =
     rw (x.left, x.has, x.part, x.after)
 
 -- a refused line stands before the journal's end, and only the end is the end
-turn_goes : (first : Bool) (k : ℕ) (l : Said) → in_turn first k l ≡ End → ◌≡◌ {A = ℕ} 0 1
-turn_goes true k (Begin n) e = cc
-turn_goes true k (Act x) e = cc
-turn_goes true k (Refused j p) e = cc
-turn_goes false k (Begin n) e = cc
-turn_goes false k (Act x) e = cc
-turn_goes false k (Refused j p) e = cc
+turn_goes : (first : Bool) (k : ℕ) (l : Reads) → in_turn first k l ≡ Ok None → ◌≡◌ {A = ℕ} 0 1
+turn_goes true k (Ok (Begin n)) e = cc
+turn_goes true k (Ok (Act x)) e = cc
+turn_goes true k (Err f) e = cc
+turn_goes false k (Ok (Begin n)) e = cc
+turn_goes false k (Ok (Act x)) e = cc
+turn_goes false k (Err f) e = cc
 
-pub refused_inside : (first : Bool) (s : List ℕ) (at line : ℕ) {k p : ℕ} → next_in first s at line ≡ RefusedAt k p → leb (length s) at ≡ false
+pub refused_inside : (first : Bool) (s : List ℕ) (at line : ℕ) {f : Fault} → next_in first s at line ≡ Err f → leb (length s) at ≡ false
 unfolding next_in
-refused_inside first s at line {k} {p} e = go (leb (length s) at) refl e
+refused_inside first s at line {f} e = go (leb (length s) at) refl e
   where
     go : (a : Bool) → leb (length s) at ≡ a
-        → cond a End (cond (unended s at) (RefusedAt 14 (length (drop at s))) (in_turn first (place_after s at) (read_line line (line_at s at))))
-        ≡ RefusedAt k p
+        → cond a (Ok None) (cond (unended s at) (Err (fault 14 (length (drop at s)))) (in_turn first (place_after s at) (read_line line (line_at s at))))
+        ≡ Err f
         → leb (length s) at ≡ false
     go true q r = never (cc)
     go false q r = q
 
-pub end_over : (first : Bool) (s : List ℕ) (at line : ℕ) → next_in first s at line ≡ End → leb (length s) at ≡ true
+pub end_over : (first : Bool) (s : List ℕ) (at line : ℕ) → next_in first s at line ≡ Ok None → leb (length s) at ≡ true
 unfolding next_in
 end_over first s at line e = go (leb (length s) at) (unended s at) refl e
   where
     go : (a b : Bool) → leb (length s) at ≡ a
-        → cond a End (cond b (RefusedAt 14 (length (drop at s))) (in_turn first (place_after s at) (read_line line (line_at s at)))) ≡ End
+        → cond a (Ok None) (cond b (Err (fault 14 (length (drop at s)))) (in_turn first (place_after s at) (read_line line (line_at s at)))) ≡ Ok None
         → leb (length s) at ≡ true
     go true b p r = p
     go false true p r = never (cc)
     go false false p r = never (turn_goes first (place_after s at) (read_line line (line_at s at)) r)
 
 -- a refused line is refused in any turn
-pub turn_refused : (first : Bool) (k j p : ℕ) → RefusedAt j p ≡ in_turn first k (Refused j p)
-turn_refused true k j p = refl
-turn_refused false k j p = refl
+pub turn_refused : (first : Bool) (k : ℕ) (f : Fault) → Err f ≡ in_turn first k (Err f)
+turn_refused true k f = refl
+turn_refused false k f = refl
 
 -- the reader goes on to the place after the line, if it does
 abbrev pub on_to : ℕ → Next → Bool
-on_to k (BeginAt n next) = eqb next k
-on_to k (ActAt x next) = eqb next k
-on_to k (RefusedAt j p) = false
-on_to k End = false
+on_to k (Ok (Some (BeginAt n next))) = eqb next k
+on_to k (Ok (Some (ActAt x next))) = eqb next k
+on_to k (Ok None) = false
+on_to k (Err f) = false
 
-turn_on : (first : Bool) (k to : ℕ) (l : Said) → on_to to (in_turn first k l) ≡ true → k ≡ to
-turn_on true k to (Begin n) e = eqb-true k to e
-turn_on true k to (Act x) e = never (cc)
-turn_on true k to (Refused j p) e = never (cc)
-turn_on false k to (Begin n) e = never (cc)
-turn_on false k to (Act x) e = eqb-true k to e
-turn_on false k to (Refused j p) e = never (cc)
+turn_on : (first : Bool) (k to : ℕ) (l : Reads) → on_to to (in_turn first k l) ≡ true → k ≡ to
+turn_on true k to (Ok (Begin n)) e = eqb-true k to e
+turn_on true k to (Ok (Act x)) e = never (cc)
+turn_on true k to (Err f) e = never (cc)
+turn_on false k to (Ok (Begin n)) e = never (cc)
+turn_on false k to (Ok (Act x)) e = eqb-true k to e
+turn_on false k to (Err f) e = never (cc)
 
 -- the line before the place that the reader goes on to, and the LF that ends it
 pub record Passed (s : List ℕ) (at next : ℕ) : Type 0 where
@@ -114,7 +119,8 @@ unfolding next_in place_after
 passed first s at line next x e on = go (leb (length s) at) (unended s at) refl refl e
   where
     go : (a b : Bool) → leb (length s) at ≡ a → unended s at ≡ b
-        → cond a End (cond b (RefusedAt 14 (length (drop at s))) (in_turn first (place_after s at) (read_line line (line_at s at)))) ≡ x → Passed s at next
+        → cond a (Ok None) (cond b (Err (fault 14 (length (drop at s)))) (in_turn first (place_after s at) (read_line line (line_at s at)))) ≡ x
+        → Passed s at next
     go true b p q r = never (cc)
     go false true p q r = never (cc)
     go false false p q r =
@@ -124,8 +130,13 @@ passed first s at line next x e on = go (leb (length s) at) (unended s at) refl 
         let len : length (line_at s at) ≡ length (until_lf (drop at s)) = ap length (line_ended s at has) in
         record { start = omega arith; within = omega arith; part = f.part; left = p; lf = ended_lf s at (next - 1) has (omega arith) }
 
-pub begun : (first : Bool) (s : List ℕ) (at line : ℕ) {n next : ℕ} → next_in first s at line ≡ BeginAt n next → Passed s at next
-begun first s at line {n} {next} e = passed first s at line next (BeginAt n next) e (eq-eqb next next refl)
+pub begun : (first : Bool) (s : List ℕ) (at line : ℕ) {n next : ℕ} → next_in first s at line ≡ Ok (Some (BeginAt n next)) → Passed s at next
+begun first s at line {n} {next} e = passed first s at line next (Ok (Some (BeginAt n next))) e (eq-eqb next next refl)
 
-pub acted : (first : Bool) (s : List ℕ) (at line : ℕ) {x : Step} {next : ℕ} → next_in first s at line ≡ ActAt x next → Passed s at next
-acted first s at line {x} {next} e = passed first s at line next (ActAt x next) e (eq-eqb next next refl)
+pub acted : (first : Bool) (s : List ℕ) (at line : ℕ) {x : Step} {next : ℕ} → next_in first s at line ≡ Ok (Some (ActAt x next)) → Passed s at next
+acted first s at line {x} {next} e = passed first s at line next (Ok (Some (ActAt x next))) e (eq-eqb next next refl)
+
+-- the line there, whichever it is
+pub went_on : (first : Bool) (s : List ℕ) (at line : ℕ) (x : NextLine) → next_in first s at line ≡ Ok (Some x) → Passed s at (position 0 (Ok (Some x)))
+went_on first s at line (BeginAt n next) e = begun first s at line e
+went_on first s at line (ActAt x next) e = acted first s at line e

@@ -1,5 +1,4 @@
 // The journal reader on a slice and a place: what the line there says, in its turn. Its part and the place after it are `lineparts`'.
-// Document 01, "Frames and journals".
 #![tactic(auto)]
 
 ghost use Rattle.std.specs.Prelude.{◌≡◌};
@@ -7,34 +6,17 @@ ghost use Rattle.meaning.specs.Frames.{read_line};
 ghost use Rattle.meaning.specs.Journals.{next_in, next_at, in_turn};
 
 use finder::{Found, find};
-use meaning::{Line, Next};
+use meaning::{Fault, Line, Next, NextLine, Refusal, Said};
 
-// 15: "the first line is no start, a later line is one", place 0
+// What a line says in its turn, with the place after it: refused where the first line is no start, or a later one is.
+#[tactic(auto, unfolding(meaning::specs::Refusals::refusal_of))]
 fn in_turn(first: bool, next: usize, said: Line) -> Next
     ensures { result ≡ in_turn first next said }
 {
-    match said {
-        Line::Begin { n } => {
-            if first {
-                Next::Begin { n, next }
-            } else {
-                Next::Refused {
-                    number: 15,
-                    place: 0,
-                }
-            }
-        }
-        Line::Act { step } => {
-            if first {
-                Next::Refused {
-                    number: 15,
-                    place: 0,
-                }
-            } else {
-                Next::Act { step, next }
-            }
-        }
-        Line::Refused { number, place } => Next::Refused { number, place },
+    match said? {
+        Said::Begin { n } if first => Ok(Some(NextLine::Begin { n, next })),
+        Said::Act { step } if !first => Ok(Some(NextLine::Act { step, next })),
+        _ => Err(Refusal::StartWrong.into()),
     }
 }
 
@@ -42,23 +24,20 @@ fn in_turn(first: bool, next: usize, said: Line) -> Next
 pub fn said(line: &[u8], number: usize, first: bool, next: usize) -> Next
     ensures { result ≡ in_turn first next (read_line number line.now) }
 {
-    let what = reading::read_line(line, number);
-    in_turn(first, next, what)
+    in_turn(first, next, reading::read_line(line, number))
 }
 
-// What the reader finds at a place, told the line number and whether the line there is the first. 14 tells the length of what is left.
+// What the reader finds at a place, told the line number and whether the line there is the first. What lacks at bytes that no LF ends is the LF,
+// after all that is left. Which line is the first is told as the definition `Journals.next_in` has it: among many lines on a table none is.
 pub fn next_in(s: &[u8], at: usize, line: usize, first: bool) -> Next
     ensures { result ≡ next_in first s.now at line }
 {
     match find(s, at) {
-        Found::Over => Next::End,
-        Found::Unended => {
-            let left = s.len() - at;
-            Next::Refused {
-                number: 14,
-                place: left,
-            }
-        }
+        Found::Over => Ok(None),
+        Found::Unended => Err(Fault {
+            refusal: Refusal::LineUnended,
+            place: s.len() - at,
+        }),
         Found::Line { end } => said(&s[at..end], line, first, end + 1),
     }
 }

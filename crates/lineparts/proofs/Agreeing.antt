@@ -5,9 +5,9 @@ use Prim.Native.Nat.{ℕ, ◌-◌, ◌≤◌, ◌<◌}
 use native.Mathlib.Omega.{arith}
 use lib.Dec.{eqb}
 use lib.ListN.{get_or, take, drop}
-use Rattle.meaning.specs.declared.Next.{Next}
-use Rattle.meaning.specs.declared.Next.TheVariants.{Begin, Act, Refused, End}
-use Rattle.meaning.specs.Journals.{line_at, next_at, handed_back, position}
+use Rattle.std.specs.Prelude.{Ok, Err, Some, None}
+use Rattle.meaning.specs.declared.NextLine.TheVariants.{Begin, Act}
+use Rattle.meaning.specs.Journals.{Next, line_at, next_at, handed_back, position}
 use Rattle.lineparts.specs.Reached.{part_at, position_at}
 use Rattle.journal.proofs.Passing.{Passed, begun, acted}
 
@@ -30,7 +30,7 @@ pub agree : (s : List ℕ) (at line : ℕ) → Agree s at (part_at s at line) (p
 agree s at line = go (next_at s at line) refl
   where
     go : (x : Next) → next_at s at line ≡ x → Agree s at (handed_back x (line_at s at)) (position at x)
-    go (Begin n next) e = went s at next (begun (eqb at 0) s at line e)
-    go (Act x next) e = went s at next (acted (eqb at 0) s at line e)
-    go (Refused k p) e = stayed s at
-    go End e = stayed s at
+    go (Ok (Some (Begin n next))) e = went s at next (begun (eqb at 0) s at line e)
+    go (Ok (Some (Act x next))) e = went s at next (acted (eqb at 0) s at line e)
+    go (Err f) e = stayed s at
+    go (Ok None) e = stayed s at

@@ -12,5 +12,5 @@ use Rattle.lines.proofs.apply_from.Reads as apply_from
 pub one_lines : OneReply 2 apply_lines_kinds.ps apply_lines_kinds.r apply_lines.Post {R = Progress × List ℕ} (λ κs x s. (x, s.0.now))
 one_lines κs a x y s s' p q = ap₂ (λ (r : Progress) (t : List ℕ). (r, t)) (p.0 ∙ sym q.0) (p.1 ∙ sym q.1)
 
-pub one_from : OneReply 2 apply_from_kinds.ps apply_from_kinds.r apply_from.Post {R = Progress × List ℕ} (λ κs x s. (x, s.1.1.1.0.now))
-one_from κs a x y s s' p q = ap₂ (λ (r : Progress) (t : List ℕ). (r, t)) (p.answer ∙ sym q.answer) (p.table ∙ sym q.table)
+pub one_from : OneReply 3 apply_from_kinds.ps apply_from_kinds.r apply_from.Post {R = Progress × List ℕ} (λ κs x s. (x, s.1.1.1.0.now.words.now))
+one_from κs a x y s s' p q = ap₂ (λ (r : Progress) (t : List ℕ). (r, t)) (p.0.answer ∙ sym q.0.answer) (p.0.table ∙ sym q.0.table)

@@ -1,2 +1,1 @@
 pub mod MoveLaws
-pub mod BarLaws

@@ -1,8 +1,9 @@
 -- Records within a table: those of a log that stands at a place, what putting some of them elsewhere settles, which of them a purge lets go, which row of
 -- a log is the first to go and which are stored, and what carrying them requires.
-use Rattle.std.specs.Prelude.{◌≡◌, Bool, true, false, not, List, [], ◌∷◌, ℕ, suc, ◌+◌, ◌*◌, ◌≤◌, ◌<◌, length, leb}
+use Rattle.std.specs.Prelude.{◌≡◌, Bool, true, false, not, List, [], ◌∷◌, ℕ, suc, ◌+◌, ◌*◌, ◌≤◌, ◌<◌, length, Option, Some, None}
 use Rattle.meaning.specs.declared.Record.{Record}
-use Rattle.meaning.specs.Rows.{newer, covers, keep, record_at, records, words, all}
+use Rattle.meaning.specs.Rows.{newer, keep, record_at, records, words, all}
+use Rattle.records.specs.Tests.{rows}
 use Rattle.meaning.specs.Table.{log_most, part, place, record_sound}
 
 -- the first `held` records of the log at `from`, and one of its records
@@ -17,19 +18,6 @@ pub record Puts (at : ℕ) (rs : List Record) (t : List ℕ) (n : ℕ) (u : List
   pub many : n ≡ length rs
   pub leaves : u ≡ place at (words rs) t
 
--- What a purge asks of each record, on either form: a record leaves "whose timestamp is at most" its bar. That is the entry for the record's origin in a
--- row of bars where records are held to one, else the limit
-abbrev pub goes : Bool → List ℕ → ℕ → Record → Bool
-goes true bars limit r = covers bars r
-goes false bars limit r = leb r.timestamp limit
-
--- the row, where records are held to one, has an entry for the record's origin, and for that of each of several records
-abbrev pub Barred : Bool → List ℕ → Record → Type 0
-Barred barred bars r = barred ≡ true → r.origin < length bars
-
-abbrev pub AllBarred : Bool → List ℕ → List Record → Type 0
-AllBarred barred bars rs = barred ≡ true → all (record_sound (length bars)) rs ≡ true
-
 -- the records that stay where those leave for which a test says so, in their order
 abbrev pub stay : (Record → Bool) → List Record → List Record
 stay leaves = keep (λ r. not (leaves r))
@@ -40,12 +28,15 @@ pub record FirstLeaving (leaves : Record → Bool) (held : ℕ) (w : List ℕ) (
   pub before : stay leaves (records r w) ≡ records r w
   pub first : r < held → leaves (record_at w r) ≡ true
 
+-- The same as it is told: a row below `held`, or nothing where none leaves
+abbrev pub FirstTold : (Record → Bool) → ℕ → List ℕ → Option ℕ → Type 0
+FirstTold leaves held w None = FirstLeaving leaves held w held
+FirstTold leaves held w (Some r) = (r < held) × FirstLeaving leaves held w r
+
 -- Rows of a log of which the first is of a record that leaves
-pub record Closes (barred : Bool) (bars : List ℕ) (limit rows : ℕ) (w : List ℕ) : Type 0 where
-  pub some : 0 < rows
-  pub inside : 4 * rows ≤ length w
-  pub first : goes barred bars limit (record_at w 0) ≡ true
-  pub each : AllBarred barred bars (records rows w)
+pub record Closes (leaves : Record → Bool) (w : List ℕ) : Type 0 where
+  pub some : 0 < rows w
+  pub first : leaves (record_at w 0) ≡ true
 
 -- The rows that closing up stores, in order, `k` being the next one free: a record that leaves stores none, one that stays goes to that row
 abbrev pub stored_or : Bool → ℕ → List ℕ → List ℕ → List ℕ

@@ -2,9 +2,11 @@
 // They know no offset: where a log stands is the caller's to say. Inner functions: what they require, the table's code shows.
 #![tactic(auto)]
 
-ghost use Rattle.std.specs.Prelude.{◌≡◌, [], ◌∷◌, ◌+◌, ◌*◌, ◌≤◌, ◌<◌, length};
-ghost use Rattle.meaning.specs.Rows.{newer, record_at, records};
-ghost use Rattle.logs.specs.Carry.{log_record, log_records, Carries, CarriesAll, Puts, goes, stay, Barred, AllBarred, FirstLeaving, Closes};
+ghost use Rattle.std.specs.Prelude.{◌≡◌, Bool, [], ◌∷◌, ◌≤◌};
+ghost use Rattle.meaning.specs.declared.Record.{Record};
+ghost use Rattle.meaning.specs.Rows.{newer};
+ghost use Rattle.records.specs.Tests.{rows, all_records, Askable, Follows};
+ghost use Rattle.logs.specs.Carry.{log_record, log_records, Carries, CarriesAll, Puts, stay, FirstTold, Closes};
 
 use layout::LOG_WORDS;
 use meaning::Record;
@@ -31,77 +33,44 @@ pub fn carry(t: &mut [u32], from: usize, held: usize, to: usize, summary: &[u32]
     requires { CarriesAll t.old from held to summary.now }
     ensures { Puts to (newer summary.now (log_records from held t.old)) t.old result t.new }
 {
-    let mut k: usize = 0;
-    let mut i: usize = 0;
-    while i < held {
-        k += carry_one(t, from, i, to + 4 * k, summary);
-        i += 1;
+    let mut carried = 0;
+    for row in 0..held {
+        carried += carry_one(t, from, row, to + 4 * carried, summary);
     }
-    k
+    carried
 }
 
-// Does a purge let a record go? Its timestamp is held to its bar: the entry for its origin in a row of bars, or the limit. Which of both is told by a word
-// of its own and not by the row's length: callers give it as a constant, and each is then compiled with the one test alone.
-fn leaves(r: Record, barred: bool, bars: &[u32], limit: u32) -> bool
-    requires { Barred barred bars.now r }
-    ensures { result ≡ goes barred bars.now limit r }
+// The row of the first record of a log that a test lets go, the log lent without the rows that hold none: nothing where all stay. It only reads: the rows
+// before that one are lent to nothing that writes.
+pub fn first_leaving<F: Fn(Record) -> bool>(log: &[u32], goes: F) -> Option<usize>
+    requires { Askable (F.pre goes) log.now }
+    ensures { (rule : Record → Bool) → Follows (F.post goes) rule log.now → FirstTold rule (rows log.now) log.now result }
 {
-    if barred {
-        let origin = r.origin as usize;
-        return r.timestamp <= bars[origin];
-    }
-    r.timestamp <= limit
-}
-
-// The row of the first of a log's first `held` records that leaves: `held` where none leaves. It only reads: the rows before that one are lent to nothing
-// that writes.
-pub fn first_leaving(log: &[u32], held: usize, barred: bool, bars: &[u32], limit: u32) -> usize
-    requires { (4 * held ≤ length log.now) × AllBarred barred bars.now (records held log.now) }
-    ensures { FirstLeaving (goes barred bars.now limit) held log.now result }
-{
-    let mut row: usize = 0;
-    while row < held {
-        if leaves(record_at(log, row), barred, bars, limit) {
-            return row;
+    for row in 0..log.len() / 4 {
+        if goes(record_at(log, row)) {
+            return Some(row);
         }
-        row += 1;
     }
-    held
+    None
 }
 
-// Moves one record of the rows up to row k, if it stays: 1 if so, else 0. Only row k is written.
-fn close_one(
-    tail: &mut [u32],
-    row: usize,
-    k: usize,
-    barred: bool,
-    bars: &[u32],
-    limit: u32,
-) -> usize
-    requires { (k < row) × (4 * row + 4 ≤ length tail.old) × Barred barred bars.now (record_at tail.old row) }
-    ensures { Puts (4 * k) (stay (goes barred bars.now limit) (record_at tail.old row ∷ []))
-        tail.old result tail.new }
+// Closes up the rows of a log from the first record that a test lets go on, the only rows that it is lent: those that stay move up, in their order, each to
+// the row after the one before (`Carry.stored_rows`); the rows behind them are as they were. How many of them are left.
+// How many rows it is lent is told beside them by a measure: worked out of the length, a purge of none on 16 nodes takes 354 instructions and not 290.
+pub fn close_up<F: Fn(Record) -> bool>(tail: &mut [u32], held: usize, goes: F) -> usize
+    requires askable { Askable (F.pre goes) tail.old }
+    requires all { held ≡ rows tail.old }
+    ensures few { result ≤ rows tail.old }
+    ensures closed { (rule : Record → Bool) → Follows (F.post goes) rule tail.old → Closes rule tail.old →
+        Puts 0 (stay rule (all_records tail.old)) tail.old result tail.new }
 {
-    let r = record_at(tail, row);
-    if leaves(r, barred, bars, limit) {
-        0
-    } else {
-        put_record(tail, 4 * k, r);
-        1
+    let mut kept = 0;
+    for row in 1..held {
+        let r = record_at(tail, row);
+        if !goes(r) {
+            put_record(tail, 4 * kept, r);
+            kept += 1;
+        }
     }
-}
-
-// Closes up the rows of a log from the first record that leaves on, the only rows that it is lent: those that stay move up, in their order, each to the
-// row after the one before (`Carry.stored_rows`); the rows behind them are as they were. How many of them are left.
-pub fn close_up(tail: &mut [u32], rows: usize, barred: bool, bars: &[u32], limit: u32) -> usize
-    requires { Closes barred bars.now limit rows tail.old }
-    ensures { Puts 0 (stay (goes barred bars.now limit) (records rows tail.old)) tail.old result tail.new }
-{
-    let mut k: usize = 0;
-    let mut i: usize = 1;
-    while i < rows {
-        k += close_one(tail, i, k, barred, bars, limit);
-        i += 1;
-    }
-    k
+    kept
 }

@@ -8,13 +8,14 @@ use native.Mathlib.Omega.{arith}
 use lib.ListN.{length, get_or}
 use lib.Dec.{leb, eqb}
 use borrow.Author.Tests.{leb-true, not-false}
-use Rattle.meaning.specs.declared.Line.{Line}
-use Rattle.meaning.specs.declared.Line.TheVariants.{Begin, Act, Refused}
-use Rattle.meaning.specs.declared.Next.{Next}
-use Rattle.meaning.specs.declared.Next.TheVariants.{Begin as BeginAt, Act as ActAt, Refused as RefusedAt, End}
+use Rattle.std.specs.Prelude.{Ok, Err, Some, None}
+use Rattle.meaning.specs.Refusals.{fault, answered_at}
+use Rattle.meaning.specs.declared.Said.{Said}
+use Rattle.meaning.specs.declared.Said.TheVariants.{Begin, Act}
+use Rattle.meaning.specs.declared.NextLine.TheVariants.{Begin as BeginAt, Act as ActAt}
 use Rattle.meaning.specs.Table.{Vectors, nodes_most, count_right, fresh}
-use Rattle.meaning.specs.Frames.{bytes_of, line_kind, line_fields, line_refusal, line_place, meant, line_is, read_line}
-use Rattle.meaning.specs.Journals.{unended, line_at, place_after, in_turn, next_in, next_at, journal, started_from, after_all, replay_after}
+use Rattle.meaning.specs.Frames.{bytes_of, line_kind, line_fields, line_refusal, line_place, meant, Line, read_line}
+use Rattle.meaning.specs.Journals.{Next, unended, line_at, place_after, in_turn, next_in, next_at, journal, started_from, after_all, replay_after}
 use Rattle.meaning.specs.Account.{events, run}
 use Rattle.meaning.proofs.FrameLaws.{good}
 use Rattle.meaning.proofs.RowLaws.{and_left, and_right}
@@ -23,38 +24,38 @@ use Rattle.meaning.proofs.Demand3.{NothingLost, demand3}
 
 -- a start that is not refused has 2 to 16 nodes
 abbrev line_right : Line → Bool
-line_right (Begin n) = count_right n
-line_right (Act s) = true
-line_right (Refused k p) = true
+line_right (Ok (Begin n)) = count_right n
+line_right (Ok (Act s)) = true
+line_right (Err f) = true
 
-meant_right : (line : ℕ) (bs : List ℕ) (b : Bool) → b && not (count_right (get_or (line_fields bs) 0 0)) ≡ false → line_right (meant line bs b) ≡ true
+meant_right : (line : ℕ) (bs : List ℕ) (b : Bool) → b && not (count_right (get_or (line_fields bs) 0 0)) ≡ false → line_right (Ok (meant line bs b)) ≡ true
 meant_right line bs true h = not-false (count_right (get_or (line_fields bs) 0 0)) h
 meant_right line bs false h = refl
 
-line_is_right : (k p : ℕ) (x : Line) → (k ≡ 0 → line_right x ≡ true) → line_right (line_is k p x) ≡ true
-line_is_right zero p x h = h refl
-line_is_right (suc k) p x h = refl
+answered_right : (k p : ℕ) (x : Said) → (k ≡ 0 → line_right (Ok x) ≡ true) → line_right (answered_at k p x) ≡ true
+answered_right zero p x h = h refl
+answered_right (suc k) p x h = refl
 
 line_right_lem : (line : ℕ) (l : List ℕ) → line_right (read_line line l) ≡ true
 unfolding read_line
 line_right_lem line l =
     let bs = bytes_of l in
     let start = eqb (line_kind bs) 0 in
-    line_is_right (line_refusal l) (line_place l) (meant line bs start) (λ h. meant_right line bs start (good l h).start)
+    answered_right (line_refusal l) (line_place l) (meant line bs start) (λ h. meant_right line bs start (good l h).start)
 
 abbrev next_right : Next → Bool
-next_right (BeginAt n next) = count_right n
-next_right (ActAt s next) = true
-next_right (RefusedAt k p) = true
-next_right End = true
+next_right (Ok (Some (BeginAt n next))) = count_right n
+next_right (Ok (Some (ActAt s next))) = true
+next_right (Err f) = true
+next_right (Ok None) = true
 
 in_turn_right : (first : Bool) (next : ℕ) (x : Line) → line_right x ≡ true → next_right (in_turn first next x) ≡ true
-in_turn_right true next (Begin n) h = h
-in_turn_right true next (Act s) h = refl
-in_turn_right true next (Refused k p) h = refl
-in_turn_right false next (Begin n) h = refl
-in_turn_right false next (Act s) h = refl
-in_turn_right false next (Refused k p) h = refl
+in_turn_right true next (Ok (Begin n)) h = h
+in_turn_right true next (Ok (Act s)) h = refl
+in_turn_right true next (Err f) h = refl
+in_turn_right false next (Ok (Begin n)) h = refl
+in_turn_right false next (Ok (Act s)) h = refl
+in_turn_right false next (Err f) h = refl
 
 cond_right : (b : Bool) (x y : Next) → next_right x ≡ true → next_right y ≡ true → next_right (cond b x y) ≡ true
 cond_right true x y p q = p
@@ -63,20 +64,20 @@ cond_right false x y p q = q
 next_right_lem : (first : Bool) (s : List ℕ) (at line : ℕ) → next_right (next_in first s at line) ≡ true
 unfolding next_in
 next_right_lem first s at line =
-    cond_right (leb (length s) at) End _ refl
-    (cond_right (unended s at) (RefusedAt 14 _) _ refl
+    cond_right (leb (length s) at) (Ok None) _ refl
+    (cond_right (unended s at) (Err (fault 14 _)) _ refl
     (in_turn_right first (place_after s at) (read_line line (line_at s at)) (line_right_lem line (line_at s at))))
 
-pub begin_right : (first : Bool) (s : List ℕ) (at line : ℕ) {n next : ℕ} → next_in first s at line ≡ BeginAt n next → count_right n ≡ true
+pub begin_right : (first : Bool) (s : List ℕ) (at line : ℕ) {n next : ℕ} → next_in first s at line ≡ Ok (Some (BeginAt n next)) → count_right n ≡ true
 begin_right first s at line e = sym (ap next_right e) ∙ next_right_lem first s at line
 
 -- a journal has no start, or one of 2 to 16 nodes
 journal_right_at : (s : List ℕ) (x : Next) → next_at s 0 1 ≡ x → next_right x ≡ true → ((journal s).n ≡ 0) ⊎ (count_right (journal s).n ≡ true)
 unfolding journal
-journal_right_at s (BeginAt n next) e h = rw (e, journal) (inr h)
-journal_right_at s (ActAt x next) e h = rw (e, journal) (inl refl)
-journal_right_at s (RefusedAt k p) e h = rw (e, journal) (inl refl)
-journal_right_at s End e h = rw (e, journal) (inl refl)
+journal_right_at s (Ok (Some (BeginAt n next))) e h = rw (e, journal) (inr h)
+journal_right_at s (Ok (Some (ActAt x next))) e h = rw (e, journal) (inl refl)
+journal_right_at s (Err f) e h = rw (e, journal) (inl refl)
+journal_right_at s (Ok None) e h = rw (e, journal) (inl refl)
 
 pub journal_right : (s : List ℕ) → ((journal s).n ≡ 0) ⊎ (count_right (journal s).n ≡ true)
 journal_right s = journal_right_at s (next_at s 0 1) refl (next_right_lem true s 0 1)

@@ -15,9 +15,10 @@ use lib.Dec.{T, ltb, eqb, eqb→eq}
 use borrow.Author.Tests.{lt-leb, eq-eqb}
 use Rattle.meaning.specs.declared.Action.{Action}
 use Rattle.meaning.specs.declared.Action.TheVariants.{Write, Session, Purge, Deliver}
-use Rattle.meaning.specs.declared.Reply.TheVariants.{Refused}
-use Rattle.meaning.specs.declared.Outcome.TheVariants.{Refused as Unread}
-use Rattle.meaning.specs.Refusals.{first, first_place}
+use Rattle.std.specs.Prelude.{Err}
+use Rattle.meaning.specs.declared.Refusal.TheVariants.{SessionOutcome, NodeTwice, JournalLong}
+use Rattle.meaning.specs.declared.Stopped.TheVariants.{Unread}
+use Rattle.meaning.specs.Refusals.{refusal_of, first, first_place}
 use Rattle.meaning.specs.Rows.{
   ascii,
   every,
@@ -333,7 +334,8 @@ unfolding every all keep least least_at raise covers newer above due earlier ins
     purged limit_of leaves lows waiting given raised refusals refusal limit leaving lagging acted reported reply after due_of lent_refusals
     lent_refusal lent_reply lent_after list_after digit digit_value spelled bytes_of all_digits stray_at total
     check journal_kinds known_in widths_in digits_in field_place_in high_first number packed unpacked action_of sealed frame_in frame start_frame line_kind
-    fields_in first first_place field_tests line_tests line_refusal line_place read_line until_lf has_lf unended line_at place_after next_in steps_from journal
+    fields_in refusal_of first
+    first_place field_tests line_tests line_refusal line_place read_line until_lf has_lf unended line_at place_after next_in steps_from journal
     after_all refused_of replayed replay_after decimal_in decimal spaced said node_line node_lines printed class_of among different pairs_of
     scrubbed touched gap counted count_refusal verdict_count counts changes does settles answers refused gives lends spread table pair sole vectored columned
     joined entries lags delivers clears overfills makes verdict line replays example told same Holds
@@ -534,7 +536,7 @@ rows =
     row "a later line is a start" (replays "0002FE\n0002FE\n") (ascii "BAD 2 15 0\n") tt ∷
     row "a wrong sum in the third line" (replays "0002FE\n0300FD\n0300FE\n") (ascii "BAD 3 13 4\n") tt ∷
     row "an empty line in a journal" (replays "0002FE\n\n") (ascii "BAD 2 18 0\n") tt ∷
-    row "a journal that is too long" (printed (Unread 16) []) (ascii "BAD 0 16\n") tt ∷
+    row "a journal that is too long" (printed (Err (Unread JournalLong)) []) (ascii "BAD 0 16\n") tt ∷
     []
 
 same_eq : (xs ys : List ℕ) → T (same xs ys) → xs ≡ ys
@@ -561,11 +563,11 @@ edges = all_hold rows
 -- "session 0 with 0: 4, whatever the readings", and whatever the node, the sound table and the outcome; one above 3 is refused with 2 before. No word
 -- changes.
 pub itself : (t : List ℕ) → Sound t → (p : ℕ) → p < count t → (ca cb outcome : ℕ)
-    → (reply t (Session p p ca cb outcome) ≡ Refused (cond (ltb 3 outcome) 2 4)) × (after t (Session p p ca cb outcome) ≡ t)
-unfolding first refusals refusal reply after
+    → (reply t (Session p p ca cb outcome) ≡ Err (cond (ltb 3 outcome) SessionOutcome NodeTwice)) × (after t (Session p p ca cb outcome) ≡ t)
+unfolding first refusals refusal refusal_of reply after
 itself t s p h ca cb outcome = go (ltb 3 outcome) refl
   where
     go : (b : Bool) → ltb 3 outcome ≡ b
-        → (reply t (Session p p ca cb outcome) ≡ Refused (cond (ltb 3 outcome) 2 4)) × (after t (Session p p ca cb outcome) ≡ t)
+        → (reply t (Session p p ca cb outcome) ≡ Err (cond (ltb 3 outcome) SessionOutcome NodeTwice)) × (after t (Session p p ca cb outcome) ≡ t)
     go true e = rw (facts_sound t s, e) (refl, refl)
     go false e = rw (facts_sound t s, e, lt-leb (count t) p h, eq-eqb p p refl) (refl, refl)

@@ -9,11 +9,10 @@ use native.Mathlib.Omega.{arith}
 use lib.ListN.{length, get_or, take, drop}
 use lib.Dec.{leb, ltb, eqb}
 use borrow.Author.Tests.{eqb-true, eqb-false}
-use Rattle.meaning.specs.declared.Line.{Line}
-use Rattle.meaning.specs.declared.Line.TheVariants.{Begin, Act, Refused}
-use Rattle.meaning.specs.declared.Next.{Next}
-use Rattle.meaning.specs.declared.Next.TheVariants.{Refused as RefusedAt, End}
-use Rattle.meaning.specs.Refusals.{Test, first, first_place}
+use Rattle.std.specs.Prelude.{Ok, Err, None}
+use Rattle.meaning.specs.declared.Fault.{Fault}
+use Rattle.meaning.specs.declared.Said.TheVariants.{Begin, Act}
+use Rattle.meaning.specs.Refusals.{fault, Test, first, first_place}
 use Rattle.meaning.specs.Frames.{
   digit_value,
   bytes_of,
@@ -33,10 +32,11 @@ use Rattle.meaning.specs.Frames.{
   line_tests,
   line_refusal,
   line_place,
+  Line,
   read_line,
   line_values,
 }
-use Rattle.meaning.specs.Journals.{has_lf, unended, line_at, place_after, in_turn, next_in, next_values}
+use Rattle.meaning.specs.Journals.{Next, has_lf, unended, line_at, place_after, in_turn, next_in, next_values}
 use Rattle.meaning.proofs.RowLaws.{and_left}
 use Rattle.meaning.proofs.AccountLaws.{by_test}
 use Rattle.meaning.proofs.RefusalLaws.{listed, passed_at, first_listed}
@@ -130,12 +130,12 @@ stray_place l e =
 
 -- In a journal: what is left from the line's start is at least the place, at 14 exactly that.
 turn_place : (first : Bool) (next : ℕ) (x : Line) → get_or (next_values (in_turn first next x)) 1 0 ≤ get_or (line_values x) 1 0
-turn_place true next (Begin n) = omega arith
-turn_place true next (Act s) = omega arith
-turn_place true next (Refused k p) = omega arith
-turn_place false next (Begin n) = omega arith
-turn_place false next (Act s) = omega arith
-turn_place false next (Refused k p) = omega arith
+turn_place true next (Ok (Begin n)) = omega arith
+turn_place true next (Ok (Act s)) = omega arith
+turn_place true next (Err f) = omega arith
+turn_place false next (Ok (Begin n)) = omega arith
+turn_place false next (Ok (Act s)) = omega arith
+turn_place false next (Err f) = omega arith
 
 line_left : (s : List ℕ) (at : ℕ) → length (line_at s at) ≤ length (drop at s)
 line_left s at =
@@ -148,7 +148,10 @@ unfolding next_in
 next_place first s at line = go (leb (length s) at) (unended s at)
   where
     go : (a b : Bool) →
-        get_or (next_values (cond a End (cond b (RefusedAt 14 (length (drop at s))) (in_turn first (place_after s at) (read_line line (line_at s at)))))) 1 0
+        get_or
+        (next_values
+        (cond a (Ok None) (cond b (Err (fault 14 (length (drop at s)))) (in_turn first (place_after s at) (read_line line (line_at s at))))))
+        1 0
         ≤ length (drop at s)
     go true b = omega arith
     go false true = omega arith
@@ -161,7 +164,7 @@ next_place first s at line = go (leb (length s) at) (unended s at)
           line_left s at,
         )
 
-pub next_within : (first : Bool) (s : List ℕ) (at line k p : ℕ) → next_in first s at line ≡ RefusedAt k p → p ≤ length (drop at s)
-next_within first s at line k p e =
-    let place : get_or (next_values (next_in first s at line)) 1 0 ≡ p = ap (λ (x : Next). get_or (next_values x) 1 0) e in
+pub next_within : (first : Bool) (s : List ℕ) (at line : ℕ) (f : Fault) → next_in first s at line ≡ Err f → f.place ≤ length (drop at s)
+next_within first s at line f e =
+    let place : get_or (next_values (next_in first s at line)) 1 0 ≡ f.place = ap (λ (x : Next). get_or (next_values x) 1 0) e in
     omega (arith, next_place first s at line)

@@ -9,11 +9,15 @@ use native.Mathlib.Nat.{pow-suc, mul_assoc, mul-le-mul_right}
 use lib.ListN.{length, get_or, take, drop, length-append}
 use lib.Dec.{leb, ltb, eqb}
 use borrow.Author.Tests.{ltb-true, ltb-false, lt-ltb, le-ltb, le-leb, lt-leb, leb-true, eqb-true, eq-eqb, ne_eqb, not-true, not-false}
-use Rattle.meaning.specs.declared.Line.TheVariants.{Begin, Act, Refused}
+use Rattle.std.specs.Prelude.{Ok, Err, Some, None}
+use mathlib.Core.Logic.{inl, inr}
+use Rattle.meaning.specs.declared.Refusal.{Refusal}
+use Rattle.meaning.specs.declared.Refusal.TheVariants.{SessionOutcome, StartWrong, RoomShort}
+use Rattle.meaning.specs.declared.Fault.{Fault}
+use Rattle.meaning.specs.declared.Said.TheVariants.{Begin, Act}
 use Rattle.meaning.specs.declared.Action.{Action}
 use Rattle.meaning.specs.declared.Action.TheVariants.{Write, Session, Purge, Deliver}
-use Rattle.meaning.specs.declared.Framed.TheVariants.{Length, Refused as Unframed}
-use Rattle.meaning.specs.Refusals.{Test, test, test_at, first, first_place}
+use Rattle.meaning.specs.Refusals.{number_of, refusal_of, answered, fault, fault_at, answered_at, Test, test, test_at, first, first_place}
 use Rattle.meaning.specs.Table.{count_right, place}
 use Rattle.meaning.specs.Rows.{unless}
 use Rattle.meaning.specs.Steps.{outcome_above}
@@ -60,10 +64,8 @@ use Rattle.meaning.specs.Frames.{
   start_reply,
   start_after,
   line_values,
-  line_is,
   meant,
   framed_values,
-  framed,
   words_tests,
   words_fault,
   six_values,
@@ -71,6 +73,14 @@ use Rattle.meaning.specs.Frames.{
 }
 use Rattle.meaning.proofs.RowLaws.{and_left, and_right}
 use Rattle.meaning.proofs.RefusalLaws.{
+  Named,
+  named,
+  first_named,
+  answered_name,
+  unless_name,
+  fault_at_name,
+  fault_none,
+  answered_fault,
   none,
   numbered,
   Gives,
@@ -427,22 +437,36 @@ pub clear_place : (l : List ℕ) → line_refusal l ≡ 0 → line_place l ≡ 0
 unfolding line_refusal line_place line_tests field_tests numbered
 clear_place l p = place_none (line_tests l) (none_first (line_tests l) refl p)
 
--- number and place together
-pub fault_is : (l : List ℕ) (k p : ℕ) → Refuses l k p → record { number = k; place = p } ≡ line_fault l
+-- refusal and place together, and none
+pub fault_is : (l : List ℕ) (r : Refusal) (p : ℕ) → Refuses l (number_of r) p → Some (record { refusal = r; place = p }) ≡ line_fault l
 unfolding line_fault
-fault_is l k p r = λ i. record { number = sym r.0 i; place = sym r.1 i }
+fault_is l r p e = sym (rw (e.1) (fault_at_name r (line_refusal l) p e.0))
+
+pub no_fault : (l : List ℕ) → line_refusal l ≡ 0 → None ≡ line_fault l
+unfolding line_fault
+no_fault l p = rw p refl
 
 -- what a line says: its refusal, a start or a step
-pub read_refused : (line k : ℕ) (l : List ℕ) → line_refusal l ≡ suc k → Refused (suc k) (line_place l) ≡ read_line line l
-unfolding read_line
-read_refused line k l p = rw p refl
+pub read_refused : (line : ℕ) (l : List ℕ) (f : Fault) → line_fault l ≡ Some f → Err f ≡ read_line line l
+unfolding line_fault read_line
+read_refused line l f e =
+    sym (answered_fault (line_refusal l) (line_place l) (meant line (bytes_of l) (eqb (line_kind (bytes_of l)) 0)) f e)
 
-pub read_begin : (line : ℕ) (l : List ℕ) → line_refusal l ≡ 0 → line_kind (bytes_of l) ≡ 0 → Begin (get_or (line_fields (bytes_of l)) 0 0) ≡ read_line line l
+pub read_wrong : (line k : ℕ) (l : List ℕ) → line_refusal l ≡ suc k → Err (fault (suc k) (line_place l)) ≡ read_line line l
+unfolding read_line
+read_wrong line k l p = rw p refl
+
+pub read_none : (l : List ℕ) → line_fault l ≡ None → line_refusal l ≡ 0
+unfolding line_fault
+read_none l e = fault_none (line_refusal l) (line_place l) e
+
+pub read_begin : (line : ℕ) (l : List ℕ) → line_refusal l ≡ 0 → line_kind (bytes_of l) ≡ 0
+    → Ok (Begin (get_or (line_fields (bytes_of l)) 0 0)) ≡ read_line line l
 unfolding read_line
 read_begin line l p q = cc (eq-eqb (line_kind (bytes_of l)) 0 q)
 
 pub read_act : (line : ℕ) (l : List ℕ) → line_refusal l ≡ 0 → (line_kind (bytes_of l) ≡ 0 → ⊥)
-    → Act (record { line = line; action = action_of (line_kind (bytes_of l)) (line_fields (bytes_of l)) }) ≡ read_line line l
+    → Ok (Act (record { line = line; action = action_of (line_kind (bytes_of l)) (line_fields (bytes_of l)) })) ≡ read_line line l
 unfolding read_line
 read_act line l p q = cc (ne_eqb (line_kind (bytes_of l)) 0 q)
 
@@ -469,22 +493,34 @@ bytes_high_first (suc k) v = bytes_append (high_first k (v / 256)) (v % 256 ∷ 
 
 -- what a writer answers and leaves
 pub framed_right : (out : List ℕ) (x : Action) → writer_refusal out x ≡ 0 →
-    (Length (length (frame x)) ≡ frame_reply out x) × (place 0 (frame x) out ≡ frame_after out x)
+    (Ok (length (frame x)) ≡ frame_reply out x) × (place 0 (frame x) out ≡ frame_after out x)
 unfolding frame_reply frame_after
 framed_right out x p = (rw p refl, rw p refl)
 
-pub framed_wrong : (out : List ℕ) (x : Action) (k : ℕ) → writer_refusal out x ≡ suc k → (Unframed (suc k) ≡ frame_reply out x) × (out ≡ frame_after out x)
+pub framed_wrong : (out : List ℕ) (x : Action) (r : Refusal) → writer_refusal out x ≡ number_of r → (Err r ≡ frame_reply out x) × (out ≡ frame_after out x)
 unfolding frame_reply frame_after
-framed_wrong out x k p = (rw p refl, rw p refl)
+framed_wrong out x r p =
+    (sym (answered_name r (writer_refusal out x) (length (frame x)) p), sym (unless_name r (writer_refusal out x) (place 0 (frame x) out) out p))
+
+pub framed_none : (out : List ℕ) (x : Action) (k : ℕ) → writer_refusal out x ≡ suc k → Err (refusal_of (suc k)) ≡ frame_reply out x
+unfolding frame_reply
+framed_none out x k p = rw p refl
+
+pub started_none : (out : List ℕ) (n k : ℕ) → starter_refusal out n ≡ suc k → Err (refusal_of (suc k)) ≡ start_reply out n
+unfolding start_reply
+started_none out n k p = rw p refl
 
 pub started_right : (out : List ℕ) (n : ℕ) → starter_refusal out n ≡ 0 →
-    (Length (length (start_frame n)) ≡ start_reply out n) × (place 0 (start_frame n) out ≡ start_after out n)
+    (Ok (length (start_frame n)) ≡ start_reply out n) × (place 0 (start_frame n) out ≡ start_after out n)
 unfolding start_reply start_after
 started_right out n p = (rw p refl, rw p refl)
 
-pub started_wrong : (out : List ℕ) (n k : ℕ) → starter_refusal out n ≡ suc k → (Unframed (suc k) ≡ start_reply out n) × (out ≡ start_after out n)
+pub started_wrong : (out : List ℕ) (n : ℕ) (r : Refusal) → starter_refusal out n ≡ number_of r → (Err r ≡ start_reply out n) × (out ≡ start_after out n)
 unfolding start_reply start_after
-started_wrong out n k p = (rw p refl, rw p refl)
+started_wrong out n r p = (
+  sym (answered_name r (starter_refusal out n) (length (start_frame n)) p),
+  sym (unless_name r (starter_refusal out n) (place 0 (start_frame n) out) out p),
+)
 
 -- the length of each frame, LF included
 pub length_write : (p t b v : ℕ) → length (frame (Write p t b v)) ≡ 25
@@ -564,31 +600,31 @@ count_wrong n p = go (leb 2 n) (leb n 16) refl refl
     go false b x y = refl
 
 -- a step's frame in too few bytes, and in enough
-pub framed_outcome : (out : List ℕ) (x : Action) → outcome_above x ≡ true → (Unframed 2 ≡ frame_reply out x) × (out ≡ frame_after out x)
-framed_outcome out x p = framed_wrong out x 1 (writer_outcome out x p)
+pub framed_outcome : (out : List ℕ) (x : Action) → outcome_above x ≡ true → (Err SessionOutcome ≡ frame_reply out x) × (out ≡ frame_after out x)
+framed_outcome out x p = framed_wrong out x SessionOutcome (writer_outcome out x p)
 
 pub framed_few : (out : List ℕ) (x : Action) (n : ℕ) → outcome_above x ≡ false → length (frame x) ≡ n → length out < n →
-    (Unframed 17 ≡ frame_reply out x) × (out ≡ frame_after out x)
-framed_few out x n p e h = framed_wrong out x 16 (writer_few out x p (rw e h))
+    (Err RoomShort ≡ frame_reply out x) × (out ≡ frame_after out x)
+framed_few out x n p e h = framed_wrong out x RoomShort (writer_few out x p (rw e h))
 
 pub framed_full : (out out' : List ℕ) (x : Action) (n : ℕ) → outcome_above x ≡ false → length (frame x) ≡ n → n ≤ length out → out' ≡ place 0 (frame x) out
-    → (Length n ≡ frame_reply out x) × (out' ≡ frame_after out x)
+    → (Ok n ≡ frame_reply out x) × (out' ≡ frame_after out x)
 framed_full out out' x n p e h q =
     let right = framed_right out x (writer_none out x p (rw e h)) in
-    (ap Length (sym e) ∙ right.0, q ∙ right.1)
+    (ap Ok (sym e) ∙ right.0, q ∙ right.1)
 
 -- the same of a start's
-pub started_count : (out : List ℕ) (n : ℕ) → count_right n ≡ false → (Unframed 15 ≡ start_reply out n) × (out ≡ start_after out n)
-started_count out n p = started_wrong out n 14 (starter_count out n p)
+pub started_count : (out : List ℕ) (n : ℕ) → count_right n ≡ false → (Err StartWrong ≡ start_reply out n) × (out ≡ start_after out n)
+started_count out n p = started_wrong out n StartWrong (starter_count out n p)
 
-pub started_few : (out : List ℕ) (n : ℕ) → count_right n ≡ true → length out < 7 → (Unframed 17 ≡ start_reply out n) × (out ≡ start_after out n)
-started_few out n p h = started_wrong out n 16 (starter_few out n p (rw (length_start n) h))
+pub started_few : (out : List ℕ) (n : ℕ) → count_right n ≡ true → length out < 7 → (Err RoomShort ≡ start_reply out n) × (out ≡ start_after out n)
+started_few out n p h = started_wrong out n RoomShort (starter_few out n p (rw (length_start n) h))
 
 pub started_full : (out out' : List ℕ) (n : ℕ) → count_right n ≡ true → 7 ≤ length out → out' ≡ place 0 (start_frame n) out
-    → (Length 7 ≡ start_reply out n) × (out' ≡ start_after out n)
+    → (Ok 7 ≡ start_reply out n) × (out' ≡ start_after out n)
 started_full out out' n p h q =
     let right = started_right out n (starter_none out n p (rw (length_start n) h)) in
-    (ap Length (sym (length_start n)) ∙ right.0, q ∙ right.1)
+    (ap Ok (sym (length_start n)) ∙ right.0, q ∙ right.1)
 
 -- a session's outcome above 3
 pub above_three : (a b ca cb o : ℕ) → 3 < o → outcome_above (Session a b ca cb o) ≡ true
@@ -599,21 +635,27 @@ pub within_three : (a b ca cb o : ℕ) → o ≤ 3 → outcome_above (Session a 
 unfolding outcome_above
 within_three a b ca cb o h = le-ltb 3 o h
 
+-- each number of a line's refusals is a name's
+pub line_named : (l : List ℕ) → Named (line_refusal l)
+unfolding line_refusal line_tests field_tests named refusal_of
+line_named l = first_named (line_tests l) refl
+
 -- the values of an answer: the refusal first, then its place, and a frame's length
 pub value_refusal : (line : ℕ) (l : List ℕ) → get_or (line_values (read_line line l)) 0 0 ≡ line_refusal l
 unfolding read_line
-value_refusal line l = go (line_refusal l) (eqb (line_kind (bytes_of l)) 0)
+value_refusal line l = go (line_refusal l) (eqb (line_kind (bytes_of l)) 0) (line_named l)
   where
-    go : (k : ℕ) (b : Bool) → get_or (line_values (line_is k (line_place l) (meant line (bytes_of l) b))) 0 0 ≡ k
-    go zero true = refl
-    go zero false = refl
-    go (suc k) b = refl
+    go : (k : ℕ) (b : Bool) → Named k → get_or (line_values (answered_at k (line_place l) (meant line (bytes_of l) b))) 0 0 ≡ k
+    go zero true n = refl
+    go zero false n = refl
+    go (suc k) b (inl e) = absurd (omega (arith, e))
+    go (suc k) b (inr e) = e
 
 pub value_place : (line : ℕ) (l : List ℕ) → get_or (line_values (read_line line l)) 1 0 ≡ line_place l
 unfolding read_line
 value_place line l = go (line_refusal l) (eqb (line_kind (bytes_of l)) 0) (clear_place l)
   where
-    go : (k : ℕ) (b : Bool) → (k ≡ 0 → line_place l ≡ 0) → get_or (line_values (line_is k (line_place l) (meant line (bytes_of l) b))) 1 0 ≡ line_place l
+    go : (k : ℕ) (b : Bool) → (k ≡ 0 → line_place l ≡ 0) → get_or (line_values (answered_at k (line_place l) (meant line (bytes_of l) b))) 1 0 ≡ line_place l
     go zero true h = sym (h refl)
     go zero false h = sym (h refl)
     go (suc k) b h = refl
@@ -628,7 +670,7 @@ pub value_length : (out : List ℕ) (x : Action) → get_or (framed_values (fram
 unfolding frame_reply
 value_length out x = go (writer_refusal out x)
   where
-    go : (k : ℕ) → get_or (framed_values (framed k (frame x))) 1 0 ≤ 27
+    go : (k : ℕ) → get_or (framed_values (answered k (length (frame x)))) 1 0 ≤ 27
     go zero = frame_most x
     go (suc k) = omega arith
 
@@ -636,7 +678,7 @@ pub value_start : (out : List ℕ) (n : ℕ) → get_or (framed_values (start_re
 unfolding start_reply
 value_start out n = go (starter_refusal out n)
   where
-    go : (k : ℕ) → get_or (framed_values (framed k (start_frame n))) 1 0 ≤ 27
+    go : (k : ℕ) → get_or (framed_values (answered k (length (start_frame n)))) 1 0 ≤ 27
     go zero = rw (length_start n) (omega arith)
     go (suc k) = omega arith
 
@@ -657,7 +699,7 @@ module _ (l words : List ℕ) where
   unfolding line_fault words_fault words_after words_tests line_refusal line_place
   words_refused h =
       let given = given_before (line_tests l) room (refused_some h) in
-      (λ i. record { number = sym given.0 i; place = sym given.1 i }, go (first (line_tests l ++ room)) (λ z. h (sym given.0 ∙ z)))
+      (λ i. fault_at (sym given.0 i) (sym given.1 i), go (first (line_tests l ++ room)) (λ z. h (sym given.0 ∙ z)))
     where
       go : (k : ℕ) → (k ≡ 0 → ⊥) → words ≡ unless k (place 0 (six_values l) words) words
       go zero p = absurd (p refl)
@@ -668,18 +710,18 @@ module _ (l words : List ℕ) where
     unfolding line_refusal line_tests field_tests numbered
     after_line = given-after (line_tests l) room (none_first (line_tests l) refl p)
 
-    pub words_few : length words < 6 → (record { number = 17; place = 0 } ≡ words_fault l words) × (words ≡ words_after l words)
-    unfolding words_fault words_after words_tests
+    pub words_few : length words < 6 → (Some (record { refusal = RoomShort; place = 0 }) ≡ words_fault l words) × (words ≡ words_after l words)
+    unfolding words_fault words_after words_tests refusal_of
     words_few h =
         let here = given_at 17 0 (ltb (length words) 6) [] (lt-ltb (length words) 6 h) in
         let number = after_line.0 ∙ here.0 in
         let at = after_line.1 ∙ here.1 in
-        (λ i. record { number = sym number i; place = sym at i }, rw number refl)
+        (λ i. fault_at (sym number i) (sym at i), rw number refl)
 
-    pub words_full : 6 ≤ length words → (record { number = 0; place = 0 } ≡ words_fault l words) × (place 0 (six_values l) words ≡ words_after l words)
+    pub words_full : 6 ≤ length words → (None ≡ words_fault l words) × (place 0 (six_values l) words ≡ words_after l words)
     unfolding words_fault words_after words_tests first first_place
     words_full h =
         let here = passed_at 17 0 (ltb (length words) 6) [] (le-ltb (length words) 6 h) in
         let number = after_line.0 ∙ here.0 in
         let at = after_line.1 ∙ here.1 in
-        (λ i. record { number = sym number i; place = sym at i }, rw number refl)
+        (λ i. fault_at (sym number i) (sym at i), rw number refl)

@@ -13,8 +13,8 @@ use borrow.Author.Tests.{leb-true, lt-ltb, eqb-true, eqb-false, ne_eqb, not-fals
 use Rattle.meaning.specs.declared.Action.{Action}
 use Rattle.meaning.specs.declared.Action.TheVariants.{Write, Session, Purge, Deliver}
 use Rattle.meaning.specs.declared.Step.{Step}
-use Rattle.meaning.specs.declared.Line.TheVariants.{Begin, Act}
-use Rattle.meaning.specs.declared.Framed.TheVariants.{Length}
+use Rattle.std.specs.Prelude.{Ok}
+use Rattle.meaning.specs.declared.Said.TheVariants.{Begin, Act}
 use Rattle.meaning.specs.Table.{count_right, place}
 use Rattle.meaning.specs.Steps.{outcome_above}
 use Rattle.meaning.specs.Frames.{
@@ -65,13 +65,13 @@ use Rattle.meaning.proofs.FrameLaws.{
   Good,
   clear,
   good,
-  read_refused,
+  read_wrong,
   read_begin,
   read_act,
   framed_right,
-  framed_wrong,
+  framed_none,
   started_right,
-  started_wrong,
+  started_none,
   written_within,
   started_within,
 }
@@ -167,7 +167,7 @@ action_body : (x : Action) → wide x ≡ true → Back journal_kinds (step_body
 unfolding wide step_body
 action_body x p = back journal_kinds (kind_of x) (fields_of x) (kind_known x).1 (fields_long x) p
 
-read_body : (x : Action) (line : ℕ) → wide x ≡ true → outcome_above x ≡ false → read_line line (step_body x) ≡ Act (record { line = line; action = x })
+read_body : (x : Action) (line : ℕ) → wide x ≡ true → outcome_above x ≡ false → read_line line (step_body x) ≡ Ok (Act (record { line = line; action = x }))
 read_body x line p q =
     let l = step_body x in
     let b = action_body x p in
@@ -194,7 +194,7 @@ frame_ends x = (step_body x, frame_step x)
 
 -- Reading the frame of a step, without its LF, gives the step back, with the line number that the reader is told.
 pub frame_reads : (x : Action) (line : ℕ) (l : List ℕ) → wide x ≡ true → outcome_above x ≡ false → frame x ≡ l ++ (10 ∷ [])
-    → read_line line l ≡ Act (record { line = line; action = x })
+    → read_line line l ≡ Ok (Act (record { line = line; action = x }))
 frame_reads x line l p q e =
     let same : step_body x ≡ l = snoc_injective (step_body x) l 10 (sym (frame_step x) ∙ e) in
     rw (← same) (read_body x line p q)
@@ -245,7 +245,7 @@ action_there bs =
     (λ z. absurd (z refl)) (λ z. (refl, refl)) (λ z. (refl, refl)) (λ z. (refl, refl)) (λ z. (refl, refl))
 
 -- what a line that reads as a step, or as a start, is
-step_read : (line : ℕ) (l : List ℕ) (s : Step) → read_line line l ≡ Act s
+step_read : (line : ℕ) (l : List ℕ) (s : Step) → read_line line l ≡ Ok (Act s)
     → (line_refusal l ≡ 0) × (line_kind (bytes_of l) ≡ 0 → ⊥) ×
     (s ≡ record { line = line; action = action_of (line_kind (bytes_of l)) (line_fields (bytes_of l)) })
 step_read line l s e = go (line_refusal l) (eqb (line_kind (bytes_of l)) 0) refl refl
@@ -253,7 +253,7 @@ step_read line l s e = go (line_refusal l) (eqb (line_kind (bytes_of l)) 0) refl
     go : (k : ℕ) (b : Bool) → line_refusal l ≡ k → eqb (line_kind (bytes_of l)) 0 ≡ b
         → (line_refusal l ≡ 0) × (line_kind (bytes_of l) ≡ 0 → ⊥) ×
         (s ≡ record { line = line; action = action_of (line_kind (bytes_of l)) (line_fields (bytes_of l)) })
-    go (suc k) b p q = let r = read_refused line k l p in let z : ◌≡◌ {A = ℕ} 0 1 = cc in absurd (omega arith)
+    go (suc k) b p q = let r = read_wrong line k l p in let z : ◌≡◌ {A = ℕ} 0 1 = cc in absurd (omega arith)
     go zero true p q =
         let r = read_begin line l p (eqb-true (line_kind (bytes_of l)) 0 q) in
         let z : ◌≡◌ {A = ℕ} 0 1 = cc in
@@ -263,13 +263,13 @@ step_read line l s e = go (line_refusal l) (eqb (line_kind (bytes_of l)) 0) refl
         let r = read_act line l p other in
         (p, other, cc)
 
-start_read : (line : ℕ) (l : List ℕ) (n : ℕ) → read_line line l ≡ Begin n
+start_read : (line : ℕ) (l : List ℕ) (n : ℕ) → read_line line l ≡ Ok (Begin n)
     → (line_refusal l ≡ 0) × (line_kind (bytes_of l) ≡ 0) × (n ≡ get_or (line_fields (bytes_of l)) 0 0)
 start_read line l n e = go (line_refusal l) (eqb (line_kind (bytes_of l)) 0) refl refl
   where
     go : (k : ℕ) (b : Bool) → line_refusal l ≡ k → eqb (line_kind (bytes_of l)) 0 ≡ b →
         (line_refusal l ≡ 0) × (line_kind (bytes_of l) ≡ 0) × (n ≡ get_or (line_fields (bytes_of l)) 0 0)
-    go (suc k) b p q = let r = read_refused line k l p in let z : ◌≡◌ {A = ℕ} 0 1 = cc in absurd (omega arith)
+    go (suc k) b p q = let r = read_wrong line k l p in let z : ◌≡◌ {A = ℕ} 0 1 = cc in absurd (omega arith)
     go zero false p q =
         let r = read_act line l p (eqb-false (line_kind (bytes_of l)) 0 q) in
         let z : ◌≡◌ {A = ℕ} 0 1 = cc in
@@ -287,7 +287,7 @@ pub record IsFrame (line : ℕ) (l : List ℕ) (s : Step) : Type 0 where
   pub within : outcome_above s.action ≡ false
   pub told : s.line ≡ line
 
-pub step_framed : (line : ℕ) (l : List ℕ) (s : Step) → read_line line l ≡ Act s → IsFrame line l s
+pub step_framed : (line : ℕ) (l : List ℕ) (s : Step) → read_line line l ≡ Ok (Act s) → IsFrame line l s
 unfolding frame wide fields_in
 step_framed line l s e =
     let r = step_read line l s e in
@@ -306,7 +306,8 @@ step_framed line l s e =
     }
 
 -- No step has two frames: lines that read as the same action are the same line.
-pub one_frame : (line line' : ℕ) (l l' : List ℕ) (s s' : Step) → read_line line l ≡ Act s → read_line line' l' ≡ Act s' → s.action ≡ s'.action → l ≡ l'
+pub one_frame : (line line' : ℕ) (l l' : List ℕ) (s s' : Step) → read_line line l ≡ Ok (Act s) → read_line line' l' ≡ Ok (Act s') → s.action ≡ s'.action
+    → l ≡ l'
 one_frame line line' l l' s s' p q e =
     snoc_injective l l' 10 (sym (step_framed line l s p).spells ∙ ap frame e ∙ (step_framed line' l' s' q).spells)
 
@@ -324,7 +325,7 @@ start_known : known 0 ≡ true
 unfolding known_in journal_kinds
 start_known = refl
 
-read_start : (n line : ℕ) → count_right n ≡ true → read_line line (start_body n) ≡ Begin n
+read_start : (n line : ℕ) → count_right n ≡ true → read_line line (start_body n) ≡ Ok (Begin n)
 read_start n line p =
     let l = start_body n in
     let b = start_back n p in
@@ -345,7 +346,7 @@ frame_start n = frame_body journal_kinds 0 (n ∷ [])
 pub start_ends : (n : ℕ) → (l : List ℕ) × (start_frame n ≡ l ++ (10 ∷ []))
 start_ends n = (start_body n, frame_start n)
 
-pub start_reads : (n line : ℕ) (l : List ℕ) → count_right n ≡ true → start_frame n ≡ l ++ (10 ∷ []) → read_line line l ≡ Begin n
+pub start_reads : (n line : ℕ) (l : List ℕ) → count_right n ≡ true → start_frame n ≡ l ++ (10 ∷ []) → read_line line l ≡ Ok (Begin n)
 start_reads n line l p e =
     let same : start_body n ≡ l = snoc_injective (start_body n) l 10 (sym (frame_start n) ∙ e) in
     rw (← same) (read_start n line p)
@@ -354,7 +355,7 @@ start_field : (bs : List ℕ) → line_kind bs ≡ 0 → line_fields bs ≡ get_
 unfolding fields_in unpacked widths_in journal_kinds
 start_field bs e = rw e refl
 
-pub start_framed : (line : ℕ) (l : List ℕ) (n : ℕ) → read_line line l ≡ Begin n → (start_frame n ≡ l ++ (10 ∷ [])) × (count_right n ≡ true)
+pub start_framed : (line : ℕ) (l : List ℕ) (n : ℕ) → read_line line l ≡ Ok (Begin n) → (start_frame n ≡ l ++ (10 ∷ [])) × (count_right n ≡ true)
 unfolding start_frame
 start_framed line l n e =
     let r = start_read line l n e in
@@ -363,7 +364,7 @@ start_framed line l n e =
     let right : not (count_right n) ≡ false = rw (r.1, ← r.2) at g.start in
     (rw (r.1, fields) at (good_frame l g), not-false (count_right n) right)
 
-pub one_start : (line line' : ℕ) (l l' : List ℕ) (n : ℕ) → read_line line l ≡ Begin n → read_line line' l' ≡ Begin n → l ≡ l'
+pub one_start : (line line' : ℕ) (l l' : List ℕ) (n : ℕ) → read_line line l ≡ Ok (Begin n) → read_line line' l' ≡ Ok (Begin n) → l ≡ l'
 one_start line line' l l' n p q = snoc_injective l l' 10 (sym (start_framed line l n p).0 ∙ (start_framed line' l' n q).0)
 
 pub start_injective : (n m : ℕ) → count_right n ≡ true → count_right m ≡ true → start_frame n ≡ start_frame m → n ≡ m
@@ -374,14 +375,14 @@ start_injective n m p q e =
     cc
 
 -- What the writer left and says that it wrote, read without its LF, is the step; so for a start.
-pub written_reads : (out : List ℕ) (x : Action) (line k : ℕ) → wide x ≡ true → frame_reply out x ≡ Length k
-    → read_line line (take (k - 1) (frame_after out x)) ≡ Act (record { line = line; action = x })
+pub written_reads : (out : List ℕ) (x : Action) (line k : ℕ) → wide x ≡ true → frame_reply out x ≡ Ok k
+    → read_line line (take (k - 1) (frame_after out x)) ≡ Ok (Act (record { line = line; action = x }))
 unfolding place
 written_reads out x line k p e = go (writer_refusal out x) refl
   where
-    go : (n : ℕ) → writer_refusal out x ≡ n → read_line line (take (k - 1) (frame_after out x)) ≡ Act (record { line = line; action = x })
+    go : (n : ℕ) → writer_refusal out x ≡ n → read_line line (take (k - 1) (frame_after out x)) ≡ Ok (Act (record { line = line; action = x }))
     go (suc n) q =
-        let r = (framed_wrong out x n q).0 in
+        let r = framed_none out x n q in
         let z : ◌≡◌ {A = ℕ} 0 1 = cc in
         absurd (omega arith)
     go zero q =
@@ -395,13 +396,13 @@ written_reads out x line k p e = go (writer_refusal out x) refl
         = sym r.1 ∙ ap (λ (f : List ℕ). f ++ rest) ends.1 ∙ append_assoc ends.0 (10 ∷ []) rest in
         rw (text, take_at ends.0 (10 ∷ rest) (k - 1) n) (frame_reads x line ends.0 p within ends.1)
 
-pub started_reads : (out : List ℕ) (n line k : ℕ) → start_reply out n ≡ Length k → read_line line (take (k - 1) (start_after out n)) ≡ Begin n
+pub started_reads : (out : List ℕ) (n line k : ℕ) → start_reply out n ≡ Ok k → read_line line (take (k - 1) (start_after out n)) ≡ Ok (Begin n)
 unfolding place
 started_reads out n line k e = go (starter_refusal out n) refl
   where
-    go : (m : ℕ) → starter_refusal out n ≡ m → read_line line (take (k - 1) (start_after out n)) ≡ Begin n
+    go : (m : ℕ) → starter_refusal out n ≡ m → read_line line (take (k - 1) (start_after out n)) ≡ Ok (Begin n)
     go (suc m) q =
-        let r = (started_wrong out n m q).0 in
+        let r = started_none out n m q in
         let z : ◌≡◌ {A = ℕ} 0 1 = cc in
         absurd (omega arith)
     go zero q =

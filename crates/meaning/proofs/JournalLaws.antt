@@ -1,21 +1,20 @@
 -- Laws of a journal's lines: where the next LF stands, the line before it, what the reader finds there, and the steps from there on.
-use mathlib.Core.Path.{◌≡◌, refl, sym, ap, ◌∙◌}
-use mathlib.Core.Bool.{Bool, true, false, not, ◌&&◌, ◌||◌, cond}
+use mathlib.Core.Path.{◌≡◌, refl, sym, ap}
+use mathlib.Core.Bool.{Bool, true, false, not, ◌&&◌, ◌||◌}
 use mathlib.Core.List.{List, [], ◌∷◌}
 use Prim.Native.Nat.{ℕ, zero, suc, ◌+◌, ◌≤◌, ◌<◌}
 use native.Mathlib.Numerals.{add-one}
 use native.Mathlib.Omega.{arith}
-use lib.Dec.{leb, ltb, eqb}
+use lib.Dec.{ltb, eqb}
 use lib.ListN.{length, get_or, take, drop, drop_of_length-le}
 use lib.Seq.{drop-cons}
-use borrow.Author.Tests.{ltb-true, lt-ltb, ne_eqb}
+use borrow.Author.Tests.{lt-ltb, ne_eqb}
+use Rattle.std.specs.Prelude.{Ok, Err, Some, None}
 use Rattle.meaning.specs.declared.Step.{Step}
-use Rattle.meaning.specs.declared.Line.{Line}
-use Rattle.meaning.specs.declared.Line.TheVariants.{Begin, Act, Refused}
-use Rattle.meaning.specs.declared.Next.{Next}
-use Rattle.meaning.specs.declared.Next.TheVariants.{Begin as BeginAt, Act as ActAt, Refused as RefusedAt, End}
-use Rattle.meaning.specs.Frames.{bytes_of, line_kind, line_refusal, line_place, meant, line_is, read_line}
-use Rattle.meaning.specs.Journals.{unless_lf, until_lf, has_lf, unended, line_at, place_after, in_turn, next_in, none, broken, step∷, steps_from}
+use Rattle.meaning.specs.declared.Fault.{Fault}
+use Rattle.meaning.specs.Refusals.{number_of}
+use Rattle.meaning.specs.declared.NextLine.TheVariants.{Begin as BeginAt, Act as ActAt}
+use Rattle.meaning.specs.Journals.{Next, unless_lf, until_lf, has_lf, unended, line_at, next_in, none, broken, step∷, steps_from}
 
 -- an LF at a place; another byte there; nothing at the end or beyond
 module _ (s : List ℕ) (i : ℕ) (h : i < length s) where
@@ -84,19 +83,20 @@ not_ended s at h e = rw (lt-ltb at (length s) h, e)
 
 -- the steps from a place on, by what stands there
 module _ (k : ℕ) (s : List ℕ) (at line : ℕ) where
-  pub steps_act : {x : Step} {next : ℕ} → next_in false s at line ≡ ActAt x next → steps_from (suc k) s at line ≡ step∷ x (steps_from k s next (line + 1))
+  pub steps_act : {x : Step} {next : ℕ} → next_in false s at line ≡ Ok (Some (ActAt x next))
+      → steps_from (suc k) s at line ≡ step∷ x (steps_from k s next (line + 1))
   unfolding steps_from
   steps_act e = rw (e, steps_from)
 
-  pub steps_begin : {n next : ℕ} → next_in false s at line ≡ BeginAt n next → steps_from (suc k) s at line ≡ broken at line 15 0
+  pub steps_begin : {n next : ℕ} → next_in false s at line ≡ Ok (Some (BeginAt n next)) → steps_from (suc k) s at line ≡ broken at line 15 0
   unfolding steps_from
   steps_begin e = rw (e, steps_from)
 
-  pub steps_refused : {j p : ℕ} → next_in false s at line ≡ RefusedAt j p → steps_from (suc k) s at line ≡ broken at line j p
+  pub steps_refused : {f : Fault} → next_in false s at line ≡ Err f → steps_from (suc k) s at line ≡ broken at line (number_of f.refusal) f.place
   unfolding steps_from
   steps_refused e = rw (e, steps_from)
 
-pub steps_end : (k : ℕ) (s : List ℕ) (at line : ℕ) → next_in false s at line ≡ End → steps_from k s at line ≡ none at
+pub steps_end : (k : ℕ) (s : List ℕ) (at line : ℕ) → next_in false s at line ≡ Ok None → steps_from k s at line ≡ none at
 unfolding steps_from
 steps_end zero s at line e = refl
 steps_end (suc k) s at line e = rw (e, steps_from)
@@ -109,10 +109,10 @@ steps_few (suc k) s at line = go (next_in false s at line) refl (λ next. steps_
   where
     go : (x : Next) → next_in false s at line ≡ x → ((next : ℕ) → length (steps_from k s next (line + 1)).steps ≤ k)
         → length (steps_from (suc k) s at line).steps ≤ suc k
-    go (BeginAt n next) e few = rw (steps_begin k s at line e) (omega arith)
-    go (ActAt x next) e few = let l = few next in rw (steps_act k s at line e) (omega arith)
-    go (RefusedAt j p) e few = rw (steps_refused k s at line e) (omega arith)
-    go End e few = rw (steps_end (suc k) s at line e) (omega arith)
+    go (Ok (Some (BeginAt n next))) e few = rw (steps_begin k s at line e) (omega arith)
+    go (Ok (Some (ActAt x next))) e few = let l = few next in rw (steps_act k s at line e) (omega arith)
+    go (Err f) e few = rw (steps_refused k s at line e) (omega arith)
+    go (Ok None) e few = rw (steps_end (suc k) s at line e) (omega arith)
 
 pub bad_line_lem : (k : ℕ) (s : List ℕ) (at line : ℕ) → 0 < (steps_from k s at line).bad_number
     → (steps_from k s at line).bad_line ≡ line + length (steps_from k s at line).steps
@@ -124,50 +124,10 @@ bad_line_lem (suc k) s at line h = go (next_in false s at line) refl h (λ next.
         → ((next : ℕ) → 0 < (steps_from k s next (line + 1)).bad_number
         → (steps_from k s next (line + 1)).bad_line ≡ line + 1 + length (steps_from k s next (line + 1)).steps)
         → (steps_from (suc k) s at line).bad_line ≡ line + length (steps_from (suc k) s at line).steps
-    go (BeginAt n next) e b rest = rw (steps_begin k s at line e) (omega arith)
-    go (ActAt x next) e b rest =
+    go (Ok (Some (BeginAt n next))) e b rest = rw (steps_begin k s at line e) (omega arith)
+    go (Ok (Some (ActAt x next))) e b rest =
         let d = steps_act k s at line e in
         let l = rest next (rw d at b) in
         rw d (omega arith)
-    go (RefusedAt j p) e b rest = rw (steps_refused k s at line e) (omega arith)
-    go End e b rest = absurd (let z : 0 < 0 = rw (steps_end (suc k) s at line e) at b in omega arith)
-
--- a line's refusal has a number
-abbrev line_numbered : Line → Bool
-line_numbered (Begin n) = true
-line_numbered (Act x) = true
-line_numbered (Refused k p) = ltb 0 k
-
-meant_numbered : (line : ℕ) (bs : List ℕ) (b : Bool) (k p : ℕ) → line_numbered (line_is k p (meant line bs b)) ≡ true
-meant_numbered line bs true zero p = refl
-meant_numbered line bs false zero p = refl
-meant_numbered line bs b (suc k) p = lt-ltb 0 (suc k) (omega arith)
-
-abbrev pub next_numbered : Next → Bool
-next_numbered (BeginAt n next) = true
-next_numbered (ActAt x next) = true
-next_numbered (RefusedAt k p) = ltb 0 k
-next_numbered End = true
-
-turn_numbered : (first : Bool) (next : ℕ) (l : Line) → line_numbered l ≡ true → next_numbered (in_turn first next l) ≡ true
-turn_numbered true next (Begin n) h = refl
-turn_numbered true next (Act x) h = refl
-turn_numbered true next (Refused k p) h = h
-turn_numbered false next (Begin n) h = refl
-turn_numbered false next (Act x) h = refl
-turn_numbered false next (Refused k p) h = h
-
-next_numbered_lem : (first : Bool) (s : List ℕ) (at line : ℕ) → next_numbered (next_in first s at line) ≡ true
-unfolding next_in read_line
-next_numbered_lem first s at line = go (leb (length s) at) (unended s at) _
-  where
-    go : (a b : Bool) (p : ℕ) →
-        next_numbered (cond a End (cond b (RefusedAt 14 p) (in_turn first (place_after s at) (read_line line (line_at s at))))) ≡ true
-    go true b p = refl
-    go false true p = refl
-    go false false p =
-        turn_numbered first (place_after s at) (read_line line (line_at s at))
-        (meant_numbered line (bytes_of (line_at s at)) (eqb (line_kind (bytes_of (line_at s at))) 0) (line_refusal (line_at s at)) (line_place (line_at s at)))
-
-pub refused_numbered : (first : Bool) (s : List ℕ) (at line k p : ℕ) → next_in first s at line ≡ RefusedAt k p → 0 < k
-refused_numbered first s at line k p e = ltb-true 0 k (sym (ap next_numbered e) ∙ next_numbered_lem first s at line)
+    go (Err f) e b rest = rw (steps_refused k s at line e) (omega arith)
+    go (Ok None) e b rest = absurd (let z : 0 < 0 = rw (steps_end (suc k) s at line e) at b in omega arith)

@@ -11,10 +11,10 @@ use Rattle.meaning.specs.declared.Record.{Record}
 use Rattle.meaning.specs.declared.Action.{Action}
 use Rattle.meaning.specs.declared.Action.TheVariants.{Write, Session, Purge, Deliver}
 use Rattle.meaning.specs.Rows.{unless, least, due}
-use Rattle.meaning.specs.Refusals.{test}
+use Rattle.meaning.specs.Refusals.{answered, test}
 use Rattle.meaning.specs.Table.{Node, log_most, mark, node}
 use Rattle.meaning.specs.Node.{waiting, given}
-use Rattle.meaning.specs.Steps.{refusals, refusal, acted, reported, replied, reply, after, due_of, lent_refusals, lent_refusal, lent_reply, lent_after}
+use Rattle.meaning.specs.Steps.{refusals, refusal, acted, reported, reply, after, due_of, lent_refusals, lent_refusal, lent_reply, lent_after}
 use Rattle.meaning.proofs.RowLaws.{length-keep}
 use Rattle.meaning.proofs.RefusalLaws.{none, given_before, given-after, first_passed, first-none}
 use Rattle.meaning.proofs.TableLaws.{log_length}
@@ -58,7 +58,7 @@ module _ (t : List ℕ) (k : ℕ) (x : Action) (room : 4 * log_most ≤ k) where
 
   pub lent_enough_reply : lent_reply t k x ≡ reply t x
   unfolding lent_reply reply
-  lent_enough_reply = ap (λ (j : ℕ). replied j (reported t x)) lent_enough
+  lent_enough_reply = ap (λ (j : ℕ). answered j (reported t x)) lent_enough
 
   pub lent_enough_after : lent_after t k x ≡ after t x
   unfolding lent_after after

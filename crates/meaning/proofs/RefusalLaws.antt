@@ -3,12 +3,49 @@
 use mathlib.Core.Path.{◌≡◌, refl, ap, ◌∙◌}
 use mathlib.Core.Bool.{Bool, true, false, not, ◌&&◌, ◌||◌, cond, or-true, true≢false}
 use mathlib.Core.List.{List, [], ◌∷◌, ◌++◌}
-use Prim.Native.Nat.{ℕ, zero, suc}
+use mathlib.Core.Logic.{◌⊎◌, inl, inr}
+use Prim.Native.Nat.{ℕ, zero, suc, ◌<◌}
 use native.Mathlib.Omega.{arith}
-use borrow.Author.Tests.{eq-eqb, ltb-true, not-true}
+use borrow.Author.Tests.{eq-eqb, eqb-true, ltb-true, not-true}
 use lib.Dec.{ltb, eqb}
 use Rattle.meaning.specs.Rows.{unless}
-use Rattle.meaning.specs.Refusals.{Test, test, test_at, first, first_place}
+use Rattle.std.specs.Prelude.{Err, Some, None}
+use Rattle.meaning.specs.declared.Refusal.{Refusal}
+use Rattle.meaning.specs.declared.Refusal.TheVariants.{
+  Unsound,
+  SessionOutcome,
+  NodeAbsent,
+  NodeTwice,
+  TimeBehind,
+  LogFull,
+  ListShort,
+  KindUnknown,
+  DigitStray,
+  SumWrong,
+  LineUnended,
+  StartWrong,
+  JournalLong,
+  RoomShort,
+  DigitsOdd,
+  LengthWrong,
+  LineOutcome,
+  OnColumns,
+}
+use Rattle.meaning.specs.declared.Fault.{Fault}
+use Rattle.meaning.specs.Refusals.{
+  number_of,
+  refusal_of,
+  answered,
+  fault,
+  fault_at,
+  answered_at,
+  fault_values,
+  Test,
+  test,
+  test_at,
+  first,
+  first_place,
+}
 use Rattle.meaning.proofs.RowLaws.{and_left, and_right}
 
 -- no test applies; each number is above 0, so that 0 is no test's; a number is a test's, or 0
@@ -139,3 +176,99 @@ module _ {A : Type 0} (xs : List Test) (new old : A) where
 
   pub accepted_new : none xs ≡ true → unless (first xs) new old ≡ new
   accepted_new h = rw (first-none xs h)
+
+-- Refusals by name and by number. A name's number is above 0, and the refusal of that number is the name
+pub number_above : (r : Refusal) → 0 < number_of r
+number_above Unsound = omega arith
+number_above SessionOutcome = omega arith
+number_above NodeAbsent = omega arith
+number_above NodeTwice = omega arith
+number_above TimeBehind = omega arith
+number_above LogFull = omega arith
+number_above ListShort = omega arith
+number_above KindUnknown = omega arith
+number_above DigitStray = omega arith
+number_above SumWrong = omega arith
+number_above LineUnended = omega arith
+number_above StartWrong = omega arith
+number_above JournalLong = omega arith
+number_above RoomShort = omega arith
+number_above DigitsOdd = omega arith
+number_above LengthWrong = omega arith
+number_above LineOutcome = omega arith
+number_above OnColumns = omega arith
+
+pub refusal_number : (r : Refusal) → refusal_of (number_of r) ≡ r
+unfolding refusal_of
+refusal_number Unsound = refl
+refusal_number SessionOutcome = refl
+refusal_number NodeAbsent = refl
+refusal_number NodeTwice = refl
+refusal_number TimeBehind = refl
+refusal_number LogFull = refl
+refusal_number ListShort = refl
+refusal_number KindUnknown = refl
+refusal_number DigitStray = refl
+refusal_number SumWrong = refl
+refusal_number LineUnended = refl
+refusal_number StartWrong = refl
+refusal_number JournalLong = refl
+refusal_number RoomShort = refl
+refusal_number DigitsOdd = refl
+refusal_number LengthWrong = refl
+refusal_number LineOutcome = refl
+refusal_number OnColumns = refl
+
+-- so a call that is refused with a name's number answers that name
+pub answered_name : {A : Type 0} (r : Refusal) (k : ℕ) (x : A) → k ≡ number_of r → answered k x ≡ Err r
+answered_name r zero x e = absurd (omega (arith, number_above r))
+answered_name r (suc k) x e = ap Err (ap refusal_of e ∙ refusal_number r)
+
+pub fault_name : (r : Refusal) (k p : ℕ) → k ≡ number_of r → fault k p ≡ record { refusal = r; place = p }
+fault_name r k p e = let same : refusal_of k ≡ r = ap refusal_of e ∙ refusal_number r in λ i. record { refusal = same i; place = p }
+
+pub fault_at_name : (r : Refusal) (k p : ℕ) → k ≡ number_of r → fault_at k p ≡ Some (record { refusal = r; place = p })
+fault_at_name r zero p e = absurd (omega (arith, number_above r))
+fault_at_name r (suc k) p e = ap Some (fault_name r (suc k) p e)
+
+pub answered_at_name : {A : Type 0} (r : Refusal) (k p : ℕ) (x : A) → k ≡ number_of r → answered_at k p x ≡ Err (record { refusal = r; place = p })
+answered_at_name r zero p x e = absurd (omega (arith, number_above r))
+answered_at_name r (suc k) p x e = ap Err (fault_name r (suc k) p e)
+
+-- and leaves what was there
+pub unless_name : {A : Type 0} (r : Refusal) (k : ℕ) (new old : A) → k ≡ number_of r → unless k new old ≡ old
+unless_name r zero new old e = absurd (omega (arith, number_above r))
+unless_name r (suc k) new old e = refl
+
+-- what a list of tests finds wrong is what its line answers, and where it finds nothing the number is 0
+pub fault_none : (k p : ℕ) → fault_at k p ≡ None → k ≡ 0
+fault_none zero p e = refl
+fault_none (suc k) p e = let z : ◌≡◌ {A = ℕ} 0 1 = cc in absurd (omega arith)
+
+pub answered_fault : {A : Type 0} (k p : ℕ) (x : A) (f : Fault) → fault_at k p ≡ Some f → answered_at k p x ≡ Err f
+answered_fault zero p x f e = let z : ◌≡◌ {A = ℕ} 0 1 = cc in absurd (omega arith)
+answered_fault (suc k) p x f e = ap Err (cc e)
+
+-- Numbers that names have: of a list whose numbers are such, the number told is the number given
+unfoldable pub named : List Test → Bool
+named [] = true
+named (x ∷ xs) = eqb (number_of (refusal_of x.number)) x.number && named xs
+
+abbrev pub Named : ℕ → Type 0
+Named k = (k ≡ 0) ⊎ (number_of (refusal_of k) ≡ k)
+
+pub first_named : (xs : List Test) → named xs ≡ true → Named (first xs)
+unfolding named first
+first_named [] h = inl refl
+first_named (x ∷ xs) h = go x.applies (first_named xs (and_right (eqb (number_of (refusal_of x.number)) x.number) (named xs) h))
+  where
+    go : (b : Bool) → Named (first xs) → Named (cond b x.number (first xs))
+    go true ih = inr (eqb-true (number_of (refusal_of x.number)) x.number (and_left (eqb (number_of (refusal_of x.number)) x.number) (named xs) h))
+    go false ih = ih
+
+-- number and place of what is found
+pub fault_told : (k p : ℕ) → Named k → (k ≡ 0 → p ≡ 0) → fault_values (fault_at k p) ≡ k ∷ p ∷ []
+fault_told zero p (inl e) none = rw (none refl)
+fault_told zero p (inr e) none = rw (none refl)
+fault_told (suc k) p (inl e) none = absurd (omega (arith, e))
+fault_told (suc k) p (inr e) none = rw e

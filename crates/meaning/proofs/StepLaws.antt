@@ -13,9 +13,12 @@ use lib.Dec.{leb, ltb}
 use Rattle.meaning.specs.declared.Record.{Record}
 use Rattle.meaning.specs.declared.Action.{Action}
 use Rattle.meaning.specs.declared.Action.TheVariants.{Write, Session, Purge, Deliver}
-use Rattle.meaning.specs.declared.Reply.TheVariants.{Refused}
 use Rattle.meaning.specs.Rows.{all, raise, newer, records}
-use Rattle.meaning.specs.Refusals.{first}
+use Rattle.std.specs.Prelude.{Ok, Err}
+use Rattle.meaning.specs.declared.Refusal.{Refusal}
+use Rattle.meaning.specs.declared.Report.{Report}
+use Rattle.meaning.specs.declared.Report.TheVariants.{Written, Carried, Purged, Delivered}
+use Rattle.meaning.specs.Refusals.{refusal_of, number_of, answered, first}
 use Rattle.meaning.specs.Table.{
   Form,
   Vectors,
@@ -43,10 +46,11 @@ use Rattle.meaning.specs.Table.{
   Shaped,
 }
 use Rattle.meaning.specs.Node.{own, wrote, opened, sent, merged, learnt, finished, ended, purged, raised}
-use Rattle.meaning.specs.Steps.{finishes_a, finishes_b, overfull, on_columns, refusals, refusal, leaving, acted, reported, reply, after}
+use Rattle.meaning.specs.Steps.{finishes_a, finishes_b, overfull, on_columns, refusals, refusal, leaving, acted, reported, reply, reply_values, after}
+use mathlib.Core.Logic.{inl, inr}
 use Rattle.meaning.proofs.RowLaws.{all_append, all_keep, length-keep, and_both, length-raise, length-records, records-take}
 use Rattle.meaning.proofs.ColumnLaws.{length-raise_each, get_or-raise_each, long_raise_each, set_columns_long, set_columns_own}
-use Rattle.meaning.proofs.RefusalLaws.{numbered, test_of, first_at}
+use Rattle.meaning.proofs.RefusalLaws.{Named, named, first_named, answered_name, unless_name, numbered, test_of, first_at}
 use Rattle.meaning.proofs.TableLaws.{
   sound_facts,
   facts_sound,
@@ -539,13 +543,33 @@ fresh-sound f n lo hi =
     }
 
 -- How code answers: a refusal, or what was done
-pub refuse : (t : List ℕ) (x : Action) (k : ℕ) → refusal t x ≡ suc k → (Refused (suc k) ≡ reply t x) × (t ≡ after t x)
+pub refuse : (t : List ℕ) (x : Action) (r : Refusal) → refusal t x ≡ number_of r → (Err r ≡ reply t x) × (t ≡ after t x)
 unfolding reply after
-refuse t x k h = (rw h, rw h)
+refuse t x r h = (sym (answered_name r (refusal t x) (reported t x) h), sym (unless_name r (refusal t x) (acted t x) t h))
 
-pub accept : (t : List ℕ) (x : Action) → refusal t x ≡ 0 → (reported t x ≡ reply t x) × (acted t x ≡ after t x)
+pub accept : (t : List ℕ) (x : Action) → refusal t x ≡ 0 → (Ok (reported t x) ≡ reply t x) × (acted t x ≡ after t x)
 unfolding reply after
 accept t x h = (rw h, rw h)
+
+-- each number of a step's refusals is a name's, and so the first value of a reply is the number of its refusal
+refusal_named : (t : List ℕ) (x : Action) → Named (refusal t x)
+unfolding refusal refusals named refusal_of
+refusal_named t (Write p c b v) = first_named (refusals t (Write p c b v)) refl
+refusal_named t (Session a b ca cb o) = first_named (refusals t (Session a b ca cb o)) refl
+refusal_named t (Purge p) = first_named (refusals t (Purge p)) refl
+refusal_named t (Deliver p) = first_named (refusals t (Deliver p)) refl
+
+pub reply_number : (t : List ℕ) (x : Action) → get_or (reply_values (reply t x)) 0 0 ≡ refusal t x
+unfolding reply
+reply_number t x = go (refusal t x) (reported t x) (refusal_named t x)
+  where
+    go : (k : ℕ) (r : Report) → Named k → get_or (reply_values (answered k r)) 0 0 ≡ k
+    go zero Written n = refl
+    go zero (Carried a b) n = refl
+    go zero (Purged k q) n = refl
+    go zero (Delivered k) n = refl
+    go (suc k) r (inl e) = absurd (omega (arith, e))
+    go (suc k) r (inr e) = e
 
 -- The refusals of a sound table, each by the tests that were passed before it
 module _ (t : List ℕ) (s : Sound t) (p c b v : ℕ) where

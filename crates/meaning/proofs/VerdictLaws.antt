@@ -11,12 +11,13 @@ use lib.Seq.{get_or-take, drop-cons}
 use lib.Dec.{leb, ltb}
 use Rattle.meaning.specs.declared.Record.{Record}
 use Rattle.meaning.specs.declared.Class.TheVariants.{NotRead, PageCache, PlatterGood, PlatterBad, Repaired, Reserved}
-use Rattle.meaning.specs.declared.Count.{Count}
-use Rattle.meaning.specs.declared.Count.TheVariants.{Counted, Refused}
 use Rattle.meaning.specs.Rows.{every, all, keep, record_at, records}
-use Rattle.meaning.specs.Refusals.{test, first}
+use Rattle.std.specs.Prelude.{Err}
+use Rattle.meaning.specs.declared.Refusal.TheVariants.{Unsound, NodeAbsent}
+use Rattle.meaning.specs.Refusals.{refusal_of, test, first}
 use Rattle.meaning.specs.Table.{form_of, log_most, log_at, part, count, held, node, sound, record_sound}
 use Rattle.meaning.specs.Verdicts.{
+  Count,
   class_of,
   is_scrubbed,
   is_touched,
@@ -112,18 +113,18 @@ records_rest k w i below =
     drop-cons (records k w) i no_record (omega arith) ∙ ap (λ (r : Record). r ∷ drop (suc i) (records k w)) (get_or-records k w i below)
 
 -- the answer of three numbers
-pub counted_is : (rs : List Record) (s t g : ℕ) → s ≡ scrubbed rs → t ≡ touched rs → g ≡ s - t → Counted s t g ≡ counted rs
+pub counted_is : (rs : List Record) (s t g : ℕ) → s ≡ scrubbed rs → t ≡ touched rs → g ≡ s - t → record { scrubbed = s; touched = t; gap = g } ≡ counted rs
 unfolding counted gap
 counted_is rs s t g es et eg = rw (← es, ← et, eg)
 
 module _ (w : List ℕ) where
   -- the answer: a list that is no whole records, and one that is too long
-  pub count_uneven : (length w % 4 ≡ 0 → ⊥) → Refused 1 ≡ verdict_count w
-  unfolding verdict_count count_refusal first
+  pub count_uneven : (length w % 4 ≡ 0 → ⊥) → Err Unsound ≡ verdict_count w
+  unfolding verdict_count count_refusal first refusal_of
   count_uneven odd = rw (ne_eqb (length w % 4) 0 odd)
 
-  pub count_long : length w % 4 ≡ 0 → 4 * log_most < length w → Refused 1 ≡ verdict_count w
-  unfolding verdict_count count_refusal first
+  pub count_long : length w % 4 ≡ 0 → 4 * log_most < length w → Err Unsound ≡ verdict_count w
+  unfolding verdict_count count_refusal first refusal_of
   count_long even long = rw (eq-eqb (length w % 4) 0 even, lt-ltb (4 * log_most) (length w) long)
 
   -- of k whole records only a verdict that is no byte is refused
@@ -155,12 +156,12 @@ module _ (t : List ℕ) (p : ℕ) where
       (λ m below. get_or-take (4 * h) (drop (log_at (form_of t) p) t) m 0 below ∙
       sym (get_or-take (4 * log_most) (drop (log_at (form_of t) p) t) m 0 (omega arith))))
 
-  pub node_unsound : sound t ≡ false → Refused 1 ≡ node_count t p
-  unfolding node_count first
+  pub node_unsound : sound t ≡ false → Err Unsound ≡ node_count t p
+  unfolding node_count first refusal_of
   node_unsound h = rw h
 
-  pub node-absent : (n : ℕ) → sound t ≡ true → n ≡ count t → n ≤ p → Refused 3 ≡ node_count t p
-  unfolding node_count first
+  pub node-absent : (n : ℕ) → sound t ≡ true → n ≡ count t → n ≤ p → Err NodeAbsent ≡ node_count t p
+  unfolding node_count first refusal_of
   node-absent n h en absent = rw (h, ← en, le-leb n p absent)
 
   pub node-counted : (h k at : ℕ) (r : Count) → sound t ≡ true → p < count t → h ≡ held t p → at ≡ log_at (form_of t) p

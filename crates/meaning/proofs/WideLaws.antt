@@ -10,8 +10,8 @@ use lib.ListN.{take}
 use borrow.Author.Tests.{lt-ltb}
 use Rattle.meaning.specs.declared.Action.{Action}
 use Rattle.meaning.specs.declared.Action.TheVariants.{Write, Session, Purge, Deliver}
-use Rattle.meaning.specs.declared.Line.TheVariants.{Act}
-use Rattle.meaning.specs.declared.Framed.TheVariants.{Length}
+use Rattle.std.specs.Prelude.{Ok}
+use Rattle.meaning.specs.declared.Said.TheVariants.{Act}
 use Rattle.meaning.specs.Steps.{outcome_above}
 use Rattle.meaning.specs.Frames.{journal_kinds, widths_in, frame, wide, read_line, frame_reply, frame_after}
 use Rattle.meaning.proofs.FrameTheorems.{frame_reads, frame_injective, written_reads}
@@ -51,12 +51,12 @@ typed_wide (Deliver p) h = cc (lt-ltb p 256 (byte p h))
 
 -- so of such actions: "reading that frame gives the step back", no two have one frame, and what the writer wrote reads as the step
 pub typed_reads : (x : Action) (line : ℕ) (l : List ℕ) → Typed x → outcome_above x ≡ false → frame x ≡ l ++ (10 ∷ [])
-    → read_line line l ≡ Act (record { line = line; action = x })
+    → read_line line l ≡ Ok (Act (record { line = line; action = x }))
 typed_reads x line l h = frame_reads x line l (typed_wide x h)
 
 pub typed_injective : (x y : Action) → Typed x → Typed y → frame x ≡ frame y → x ≡ y
 typed_injective x y h k = frame_injective x y (typed_wide x h) (typed_wide y k)
 
-pub typed_written : (out : List ℕ) (x : Action) (line k : ℕ) → Typed x → frame_reply out x ≡ Length k
-    → read_line line (take (k - 1) (frame_after out x)) ≡ Act (record { line = line; action = x })
+pub typed_written : (out : List ℕ) (x : Action) (line k : ℕ) → Typed x → frame_reply out x ≡ Ok k
+    → read_line line (take (k - 1) (frame_after out x)) ≡ Ok (Act (record { line = line; action = x }))
 typed_written out x line k h = written_reads out x line k (typed_wide x h)

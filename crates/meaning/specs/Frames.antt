@@ -29,15 +29,18 @@ use Rattle.std.specs.Prelude.{
   leb,
   ltb,
   eqb,
+  Result,
+  Ok,
+  Err,
+  Option,
 }
 use Rattle.meaning.specs.declared.Action.{Action}
 use Rattle.meaning.specs.declared.Action.TheVariants.{Write, Session, Purge, Deliver}
 use Rattle.meaning.specs.declared.Fault.{Fault}
-use Rattle.meaning.specs.declared.Line.{Line}
-use Rattle.meaning.specs.declared.Line.TheVariants.{Begin, Act, Refused}
-use Rattle.meaning.specs.declared.Framed.{Framed}
-use Rattle.meaning.specs.declared.Framed.TheVariants.{Length, Refused as Unframed}
-use Rattle.meaning.specs.Refusals.{Test, test, test_at, first, first_place}
+use Rattle.meaning.specs.declared.Refusal.{Refusal}
+use Rattle.meaning.specs.declared.Said.{Said}
+use Rattle.meaning.specs.declared.Said.TheVariants.{Begin, Act}
+use Rattle.meaning.specs.Refusals.{number_of, answered, fault_at, answered_at, Test, test, test_at, first, first_place}
 use Rattle.meaning.specs.Rows.{unless}
 use Rattle.meaning.specs.Table.{count_right, place}
 use Rattle.meaning.specs.Steps.{outcome_above}
@@ -200,18 +203,17 @@ unfoldable pub starter_refusal : List ℕ → ℕ → ℕ
 starter_refusal out n = first (starter_tests out n)
 
 -- "Otherwise it writes the frame from place 0, reports its length (0 if refused) and changes nothing else."
-abbrev pub framed : ℕ → List ℕ → Framed
-framed zero f = Length (length f)
-framed (suc k) f = Unframed (suc k)
+abbrev pub Framed : Type 0
+Framed = Result ℕ Refusal
 
 unfoldable pub frame_reply : List ℕ → Action → Framed
-frame_reply out x = framed (writer_refusal out x) (frame x)
+frame_reply out x = answered (writer_refusal out x) (length (frame x))
 
 unfoldable pub frame_after : List ℕ → Action → List ℕ
 frame_after out x = unless (writer_refusal out x) (place 0 (frame x) out) out
 
 unfoldable pub start_reply : List ℕ → ℕ → Framed
-start_reply out n = framed (starter_refusal out n) (start_frame n)
+start_reply out n = answered (starter_refusal out n) (length (start_frame n))
 
 unfoldable pub start_after : List ℕ → ℕ → List ℕ
 start_after out n = unless (starter_refusal out n) (place 0 (start_frame n) out) out
@@ -224,8 +226,8 @@ abbrev pub Began : List ℕ → ℕ → Framed → List ℕ → Type 0
 Began out n r out' = (r ≡ start_reply out n) × (out' ≡ start_after out n)
 
 abbrev pub framed_values : Framed → List ℕ
-framed_values (Length k) = 0 ∷ k ∷ []
-framed_values (Unframed k) = k ∷ 0 ∷ []
+framed_values (Ok k) = 0 ∷ k ∷ []
+framed_values (Err r) = number_of r ∷ 0 ∷ []
 
 -- A line's kind and fields, whatever its bytes
 unfoldable pub line_kind : List ℕ → ℕ
@@ -265,9 +267,9 @@ field_tests l =
 unfoldable pub line_tests : List ℕ → List Test
 line_tests l = shape_tests journal_kinds l (field_tests l)
 
--- what a list of tests gives, as number and place
-abbrev pub fault_of : List Test → Fault
-fault_of xs = record { number = first xs; place = first_place xs }
+-- what a list of tests gives, with its place
+abbrev pub fault_of : List Test → Option Fault
+fault_of xs = fault_at (first xs) (first_place xs)
 
 -- a line's refusal and its place, 0 and 0 for none
 unfoldable pub line_refusal : List ℕ → ℕ
@@ -276,33 +278,33 @@ line_refusal l = first (line_tests l)
 unfoldable pub line_place : List ℕ → ℕ
 line_place l = first_place (line_tests l)
 
-unfoldable pub line_fault : List ℕ → Fault
-line_fault l = record { number = line_refusal l; place = line_place l }
+unfoldable pub line_fault : List ℕ → Option Fault
+line_fault l = fault_at (line_refusal l) (line_place l)
 
 -- What a line of these bytes says, where it is not refused; the step takes the line number that the reader is told
-abbrev pub meant : ℕ → List ℕ → Bool → Line
+abbrev pub meant : ℕ → List ℕ → Bool → Said
 meant line bs true = Begin (get_or (line_fields bs) 0 0)
 meant line bs false = Act (record { line = line; action = action_of (line_kind bs) (line_fields bs) })
 
-abbrev pub line_is : ℕ → ℕ → Line → Line
-line_is zero p x = x
-line_is (suc k) p x = Refused (suc k) p
+-- What a line says, or what is wrong with it
+abbrev pub Line : Type 0
+Line = Result Said Fault
 
 unfoldable pub read_line : ℕ → List ℕ → Line
-read_line line l = line_is (line_refusal l) (line_place l) (meant line (bytes_of l) (eqb (line_kind (bytes_of l)) 0))
+read_line line l = answered_at (line_refusal l) (line_place l) (meant line (bytes_of l) (eqb (line_kind (bytes_of l)) 0))
 
 -- Document 01's values of each answer: the refusal and its place (0 and 0 for none), then the kind and the fields
 abbrev pub line_values : Line → List ℕ
-line_values (Begin n) = 0 ∷ 0 ∷ 0 ∷ n ∷ []
-line_values (Act s) = 0 ∷ 0 ∷ kind_of s.action ∷ fields_of s.action
-line_values (Refused k p) = k ∷ p ∷ []
+line_values (Ok (Begin n)) = 0 ∷ 0 ∷ 0 ∷ n ∷ []
+line_values (Ok (Act s)) = 0 ∷ 0 ∷ kind_of s.action ∷ fields_of s.action
+line_values (Err f) = number_of f.refusal ∷ f.place ∷ []
 
 -- A line read in one call, its kind and fields into lent words (T-01): the line's refusals in their order, then 17 where fewer than six words are
 -- lent, with place 0
 unfoldable pub words_tests : List ℕ → List ℕ → List Test
 words_tests l words = line_tests l ++ (test 17 (ltb (length words) 6) ∷ [])
 
-unfoldable pub words_fault : List ℕ → List ℕ → Fault
+unfoldable pub words_fault : List ℕ → List ℕ → Option Fault
 words_fault l words = fault_of (words_tests l words)
 
 -- as many values as are asked for: the list's, and 0 after them
@@ -319,5 +321,5 @@ six_values l = padded 6 (drop 2 (line_values (read_line 0 l)))
 unfoldable pub words_after : List ℕ → List ℕ → List ℕ
 words_after l words = unless (first (words_tests l words)) (place 0 (six_values l) words) words
 
-abbrev pub ReadWords : List ℕ → List ℕ → Fault → List ℕ → Type 0
+abbrev pub ReadWords : List ℕ → List ℕ → Option Fault → List ℕ → Type 0
 ReadWords l words r words' = (r ≡ words_fault l words) × (words' ≡ words_after l words)

@@ -1,18 +1,50 @@
 -- Journals: the line at a position, the reader's answer, the steps of a journal, its replay and what is printed.
 -- Document 01, "Frames and journals".
-use Rattle.std.specs.Prelude.{Bool, true, false, not, ◌&&◌, ◌||◌, cond, List, [], ◌∷◌, ◌++◌, ℕ, zero, suc, ◌+◌, ◌/◌, ◌%◌, length, drop, leb, ltb, eqb}
+use Rattle.std.specs.Prelude.{
+  Bool,
+  true,
+  false,
+  not,
+  ◌&&◌,
+  ◌||◌,
+  cond,
+  List,
+  [],
+  ◌∷◌,
+  ◌++◌,
+  ℕ,
+  zero,
+  suc,
+  ◌+◌,
+  ◌/◌,
+  ◌%◌,
+  length,
+  drop,
+  leb,
+  ltb,
+  eqb,
+  Result,
+  Ok,
+  Err,
+  Option,
+  Some,
+  None,
+}
 use Prim.Native.String.{String}
 use Rattle.meaning.specs.declared.Step.{Step}
-use Rattle.meaning.specs.declared.Line.{Line}
-use Rattle.meaning.specs.declared.Line.TheVariants.{Begin, Act, Refused}
-use Rattle.meaning.specs.declared.Next.{Next}
-use Rattle.meaning.specs.declared.Next.TheVariants.{Begin as BeginAt, Act as ActAt, Refused as RefusedAt, End}
-use Rattle.meaning.specs.declared.Outcome.{Outcome}
-use Rattle.meaning.specs.declared.Outcome.TheVariants.{Bad, Refused as Unread, Done}
+use Rattle.meaning.specs.declared.Said.TheVariants.{Begin, Act}
+use Rattle.meaning.specs.declared.NextLine.{NextLine}
+use Rattle.meaning.specs.declared.NextLine.TheVariants.{Begin as BeginAt, Act as ActAt}
+use Rattle.meaning.specs.declared.Done.{Done}
+use Rattle.meaning.specs.declared.Fault.{Fault}
+use Rattle.meaning.specs.declared.Refusal.TheVariants.{JournalLong}
+use Rattle.meaning.specs.declared.Stopped.{Stopped}
+use Rattle.meaning.specs.declared.Stopped.TheVariants.{Bad, Unread}
 use Rattle.meaning.specs.Rows.{ascii}
+use Rattle.meaning.specs.Refusals.{number_of, fault}
 use Rattle.meaning.specs.Table.{Vectors, Node, fresh, node}
 use Rattle.meaning.specs.Steps.{refusal, after}
-use Rattle.meaning.specs.Frames.{kind_of, fields_of, read_line}
+use Rattle.meaning.specs.Frames.{kind_of, fields_of, Line, read_line}
 
 -- "The next line runs from the position to the next LF": what stands before the first LF, and whether there is one
 abbrev pub unless_lf : Bool → ℕ → List ℕ → List ℕ
@@ -38,21 +70,25 @@ line_at s at = cond (has_lf (drop at s)) (until_lf (drop at s)) []
 unfoldable pub place_after : List ℕ → ℕ → ℕ
 place_after s at = at + (length (line_at s at) + 1)
 
+-- What the reader finds: a line that stands in its turn, with the place after it; none at the end; or what is wrong with the line
+abbrev pub Next : Type 0
+Next = Result (Option NextLine) Fault
+
 -- 15: "the first line is no start, a later line is one"
 abbrev pub in_turn : Bool → ℕ → Line → Next
-in_turn true next (Begin n) = BeginAt n next
-in_turn true next (Act s) = RefusedAt 15 0
-in_turn true next (Refused k p) = RefusedAt k p
-in_turn false next (Begin n) = RefusedAt 15 0
-in_turn false next (Act s) = ActAt s next
-in_turn false next (Refused k p) = RefusedAt k p
+in_turn true next (Ok (Begin n)) = Ok (Some (BeginAt n next))
+in_turn true next (Ok (Act s)) = Err (fault 15 0)
+in_turn true next (Err f) = Err f
+in_turn false next (Ok (Begin n)) = Err (fault 15 0)
+in_turn false next (Ok (Act s)) = Ok (Some (ActAt s next))
+in_turn false next (Err f) = Err f
 
 -- What the reader finds at a place, told whether the line there is the first, and the line number. "At the end or beyond it says so." What
 -- lacks at 14 is the LF, after all that is left.
 unfoldable pub next_in : Bool → List ℕ → ℕ → ℕ → Next
 next_in first s at line =
-    cond (leb (length s) at) End
-    (cond (unended s at) (RefusedAt 14 (length (drop at s))) (in_turn first (place_after s at) (read_line line (line_at s at))))
+    cond (leb (length s) at) (Ok None)
+    (cond (unended s at) (Err (fault 14 (length (drop at s)))) (in_turn first (place_after s at) (read_line line (line_at s at))))
 
 -- In a journal "the line read at place 0 is the first, and no other is"
 abbrev pub next_at : List ℕ → ℕ → ℕ → Next
@@ -61,24 +97,23 @@ next_at s at line = next_in (eqb at 0) s at line
 -- Document 01's values of each answer: the refusal and its place (0 and 0 for none), then the kind, the fields and the next place of a start or a
 -- step
 abbrev pub next_values : Next → List ℕ
-next_values (BeginAt n next) = 0 ∷ 0 ∷ 0 ∷ n ∷ next ∷ []
-next_values (ActAt s next) = 0 ∷ 0 ∷ kind_of s.action ∷ (fields_of s.action ++ (next ∷ []))
-next_values (RefusedAt k p) = k ∷ p ∷ []
-next_values End = 0 ∷ 0 ∷ []
+next_values (Ok (Some (BeginAt n next))) = 0 ∷ 0 ∷ 0 ∷ n ∷ next ∷ []
+next_values (Ok (Some (ActAt s next))) = 0 ∷ 0 ∷ kind_of s.action ∷ (fields_of s.action ++ (next ∷ []))
+next_values (Ok None) = 0 ∷ 0 ∷ []
+next_values (Err f) = number_of f.refusal ∷ f.place ∷ []
 
 -- "hands back each line ..; with a refusal the part is empty"
 abbrev pub handed_back : Next → List ℕ → List ℕ
-handed_back (BeginAt n next) l = l
-handed_back (ActAt s next) l = l
-handed_back (RefusedAt k p) l = []
-handed_back End l = []
+handed_back (Ok (Some x)) l = l
+handed_back (Ok None) l = []
+handed_back (Err f) l = []
 
 -- The position afterwards: "A refused line .. leaves the position at that line's start."
 abbrev pub position : ℕ → Next → ℕ
-position at (BeginAt n next) = next
-position at (ActAt s next) = next
-position at (RefusedAt k p) = at
-position at End = at
+position at (Ok (Some (BeginAt n next))) = next
+position at (Ok (Some (ActAt s next))) = next
+position at (Ok None) = at
+position at (Err f) = at
 
 -- The steps from a place on, up to the end or the first refused line: its line, number and place in it, zeros where there is none; and
 -- where the reading stopped, at the refused line's start or where the end was found. No line among them is a first one.
@@ -103,10 +138,10 @@ unfoldable pub steps_from : ℕ → List ℕ → ℕ → ℕ → Steps
 steps_from zero s at line = none at
 steps_from (suc k) s at line =
     elim (next_in false s at line) [
-      | BeginAt n next ↦ broken at line 15 0
-      | ActAt x next ↦ step∷ x (steps_from k s next (line + 1))
-      | RefusedAt j p ↦ broken at line j p
-      | End ↦ none at
+      | Ok (Some (BeginAt n next)) ↦ broken at line 15 0
+      | Ok (Some (ActAt x next)) ↦ step∷ x (steps_from k s next (line + 1))
+      | Ok None ↦ none at
+      | Err f ↦ broken at line (number_of f.refusal) f.place
     ]
 
 -- A journal: its start's n (0 without one) and its steps. "An empty journal gives BAD 1 15", place 0.
@@ -117,10 +152,10 @@ pub record Journal : Type 0 where
 unfoldable pub journal : List ℕ → Journal
 journal s =
     elim (next_at s 0 1) [
-      | BeginAt n next ↦ record { n = n; rest = steps_from (length s) s next 2 }
-      | ActAt x next ↦ record { n = 0; rest = broken 0 1 15 0 }
-      | RefusedAt k p ↦ record { n = 0; rest = broken 0 1 k p }
-      | End ↦ record { n = 0; rest = broken 0 1 15 0 }
+      | Ok (Some (BeginAt n next)) ↦ record { n = n; rest = steps_from (length s) s next 2 }
+      | Ok (Some (ActAt x next)) ↦ record { n = 0; rest = broken 0 1 15 0 }
+      | Ok None ↦ record { n = 0; rest = broken 0 1 15 0 }
+      | Err f ↦ record { n = 0; rest = broken 0 1 (number_of f.refusal) f.place }
     ]
 
 -- "applies its steps to a fresh table; a refused step is counted and passed over"
@@ -137,15 +172,18 @@ refused_of t [] = 0
 refused_of t (s ∷ ss) = one_if (refusal t s.action) + refused_of (after t s.action) ss
 
 -- The replay's outcome, and the table: the caller's own where the first line is refused, else a fresh one after the steps before the refused line
+abbrev pub Outcome : Type 0
+Outcome = Result Done Stopped
+
 abbrev pub outcome_of : ℕ → Journal → Outcome
-outcome_of zero j = Done j.n (length j.rest.steps) (refused_of (fresh Vectors j.n) j.rest.steps)
-outcome_of (suc k) j = Bad j.rest.bad_line (suc k) j.rest.bad_place
+outcome_of zero j = Ok (record { n = j.n; steps = length j.rest.steps; refused = refused_of (fresh Vectors j.n) j.rest.steps })
+outcome_of (suc k) j = Err (Bad j.rest.bad_line (fault (suc k) j.rest.bad_place))
 
 -- document 01's values: the refused line, its number and place; no line and the number alone; or no refusal and the three counts
 abbrev pub outcome_values : Outcome → List ℕ
-outcome_values (Bad line k p) = line ∷ k ∷ p ∷ []
-outcome_values (Unread k) = 0 ∷ k ∷ []
-outcome_values (Done n steps refused) = 0 ∷ 0 ∷ n ∷ steps ∷ refused ∷ []
+outcome_values (Err (Bad line f)) = line ∷ number_of f.refusal ∷ f.place ∷ []
+outcome_values (Err (Unread r)) = 0 ∷ number_of r ∷ []
+outcome_values (Ok x) = 0 ∷ 0 ∷ x.n ∷ x.steps ∷ x.refused ∷ []
 
 unfoldable pub replayed : List ℕ → Outcome
 replayed s = outcome_of (journal s).rest.bad_number (journal s)
@@ -185,11 +223,11 @@ node_lines (suc p) t = node_lines p t ++ node_line p (node t p)
 -- "`BAD line number`", and the place "as a third number after `BAD`; 16 has none"; otherwise "`N`, the count, `STEPS`, all step lines, `REFUSED`,
 -- those refused. Then one line a node"
 unfoldable pub printed : Outcome → List ℕ → List ℕ
-printed (Bad line k p) t = said "BAD" (line ∷ k ∷ p ∷ []) ++ ascii "\n"
-printed (Unread k) t = said "BAD" (0 ∷ k ∷ []) ++ ascii "\n"
-printed (Done n steps refused) t =
-    said "N" (n ∷ []) ++ (said " STEPS" (steps ∷ []) ++ (said " REFUSED" (refused ∷ []) ++ (ascii "\n" ++ node_lines n t)))
+printed (Err (Bad line f)) t = said "BAD" (line ∷ number_of f.refusal ∷ f.place ∷ []) ++ ascii "\n"
+printed (Err (Unread r)) t = said "BAD" (0 ∷ number_of r ∷ []) ++ ascii "\n"
+printed (Ok x) t =
+    said "N" (x.n ∷ []) ++ (said " STEPS" (x.steps ∷ []) ++ (said " REFUSED" (x.refused ∷ []) ++ (ascii "\n" ++ node_lines x.n t)))
 
 -- What the program prints. "Number 16, only from the program: the journal exceeds 65,536 bytes."
 unfoldable pub replay_text : List ℕ → List ℕ
-replay_text s = cond (ltb 65536 (length s)) (printed (Unread 16) []) (printed (replayed s) (replay_after [] s))
+replay_text s = cond (ltb 65536 (length s)) (printed (Err (Unread JournalLong)) []) (printed (replayed s) (replay_after [] s))

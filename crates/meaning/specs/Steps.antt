@@ -1,13 +1,14 @@
 -- Steps on a table: the refusal number, the reply and the words at exit, for every list of words and every action.
 -- Document 01, "The three actions" and "Refusal numbers and their order"; document 02, T-04 and T-06.
-use Rattle.std.specs.Prelude.{Bool, true, false, not, ◌&&◌, ◌||◌, cond, List, [], ◌∷◌, ◌++◌, ℕ, zero, suc, ◌-◌, ◌*◌, length, leb, ltb, eqb}
+use Rattle.std.specs.Prelude.{Bool, true, false, not, ◌&&◌, ◌||◌, cond, List, [], ◌∷◌, ◌++◌, ℕ, ◌-◌, ◌*◌, length, leb, ltb, eqb, Result, Ok, Err}
 use Rattle.meaning.specs.declared.Action.{Action}
 use Rattle.meaning.specs.declared.Action.TheVariants.{Write, Session, Purge, Deliver}
 use Rattle.meaning.specs.declared.Record.{Record}
-use Rattle.meaning.specs.declared.Reply.{Reply}
-use Rattle.meaning.specs.declared.Reply.TheVariants.{Written, Carried, Purged, Delivered, Refused}
+use Rattle.meaning.specs.declared.Refusal.{Refusal}
+use Rattle.meaning.specs.declared.Report.{Report}
+use Rattle.meaning.specs.declared.Report.TheVariants.{Written, Carried, Purged, Delivered}
 use Rattle.meaning.specs.Rows.{unless, least_at, words}
-use Rattle.meaning.specs.Refusals.{Test, test, first}
+use Rattle.meaning.specs.Refusals.{number_of, answered, Test, test, first}
 use Rattle.meaning.specs.Table.{
   Form,
   Vectors,
@@ -120,7 +121,7 @@ acted t (Deliver p) = put_mark p (raised (mark t p) (node t p)) t
 abbrev pub carried : Bool → Node → Node → ℕ
 carried finishes mine theirs = cond finishes (length (sent mine theirs)) 0
 
-unfoldable pub reported : List ℕ → Action → Reply
+unfoldable pub reported : List ℕ → Action → Report
 reported t (Write p c b v) = Written
 reported t (Session a b ca cb o) =
     Carried (carried (finishes_a o) (opened a ca (node t a)) (opened b cb (node t b)))
@@ -128,24 +129,23 @@ reported t (Session a b ca cb o) =
 reported t (Purge p) = Purged (length (node t p).log - length (purged (leaving t p) (node t p)).log) (lagging t p)
 reported t (Deliver p) = Delivered (length (waiting (mark t p) (node t p)))
 
--- A refusal "reports zero counts and changes no word".
-abbrev pub replied : ℕ → Reply → Reply
-replied zero x = x
-replied (suc k) x = Refused (suc k)
+-- What a step answers. A refusal "reports zero counts and changes no word".
+abbrev pub Reply : Type 0
+Reply = Result Report Refusal
 
 unfoldable pub reply : List ℕ → Action → Reply
-reply t x = replied (refusal t x) (reported t x)
+reply t x = answered (refusal t x) (reported t x)
 
 unfoldable pub after : List ℕ → Action → List ℕ
 after t x = unless (refusal t x) (acted t x) t
 
 -- The values of each reply: the number (0 for none), then the two counts; a purge's second is the node that lags, and "a refused one" has "node 0"
 abbrev pub reply_values : Reply → List ℕ
-reply_values Written = 0 ∷ 0 ∷ 0 ∷ []
-reply_values (Carried a b) = 0 ∷ a ∷ b ∷ []
-reply_values (Purged k q) = 0 ∷ k ∷ q ∷ []
-reply_values (Delivered k) = 0 ∷ k ∷ 0 ∷ []
-reply_values (Refused k) = k ∷ 0 ∷ 0 ∷ []
+reply_values (Ok Written) = 0 ∷ 0 ∷ 0 ∷ []
+reply_values (Ok (Carried a b)) = 0 ∷ a ∷ b ∷ []
+reply_values (Ok (Purged k q)) = 0 ∷ k ∷ q ∷ []
+reply_values (Ok (Delivered k)) = 0 ∷ k ∷ 0 ∷ []
+reply_values (Err r) = number_of r ∷ 0 ∷ 0 ∷ []
 
 -- A delivery into a lent list of k words. What is due of an action
 unfoldable pub due_of : List ℕ → Action → List Record
@@ -162,7 +162,7 @@ unfoldable pub lent_refusal : List ℕ → ℕ → Action → ℕ
 lent_refusal t k x = first (lent_refusals t k x)
 
 unfoldable pub lent_reply : List ℕ → ℕ → Action → Reply
-lent_reply t k x = replied (lent_refusal t k x) (reported t x)
+lent_reply t k x = answered (lent_refusal t k x) (reported t x)
 
 unfoldable pub lent_after : List ℕ → ℕ → Action → List ℕ
 lent_after t k x = unless (lent_refusal t k x) (acted t x) t

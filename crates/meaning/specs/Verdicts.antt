@@ -1,12 +1,12 @@
 -- The verdict count. Document 01, "Verdict count"; document 02, T-05.
-use Rattle.std.specs.Prelude.{Bool, true, false, not, ◌&&◌, ◌||◌, cond, List, [], ◌∷◌, map, ℕ, zero, suc, ◌-◌, ◌*◌, ◌/◌, ◌%◌, length, leb, ltb, eqb}
+use Rattle.std.specs.Prelude.{Bool, true, false, not, ◌&&◌, ◌||◌, cond, List, [], ◌∷◌, map, ℕ, ◌-◌, ◌*◌, ◌/◌, ◌%◌, length, leb, ltb, eqb, Result, Ok, Err}
 use Rattle.meaning.specs.declared.Record.{Record}
 use Rattle.meaning.specs.declared.Class.{Class}
 use Rattle.meaning.specs.declared.Class.TheVariants.{NotRead, PageCache, PlatterGood, PlatterBad, Repaired, Reserved}
-use Rattle.meaning.specs.declared.Count.{Count}
-use Rattle.meaning.specs.declared.Count.TheVariants.{Counted, Refused}
+use Rattle.meaning.specs.declared.Refusal.{Refusal}
+use Rattle.meaning.specs.declared.Tally.{Tally}
 use Rattle.meaning.specs.Rows.{every, keep, record_at, records}
-use Rattle.meaning.specs.Refusals.{test, first}
+use Rattle.meaning.specs.Refusals.{number_of, answered, test, first}
 use Rattle.meaning.specs.Table.{log_most, absent, node, sound}
 
 -- "00–0F not read; 10–1F answered from page cache; 20–2F read from platter, good; 30–3F read from platter, bad;
@@ -71,8 +71,8 @@ touched rs = length (pairs_of is_touched rs)
 unfoldable pub gap : List Record → ℕ
 gap rs = scrubbed rs - touched rs
 
-unfoldable pub counted : List Record → Count
-counted rs = Counted (scrubbed rs) (touched rs) (gap rs)
+unfoldable pub counted : List Record → Tally
+counted rs = record { scrubbed = scrubbed rs; touched = touched rs; gap = gap rs }
 
 -- "Over a lent list of 0 to 64 records of four words (else, or with a verdict above 255, refusal 1 and zero counts)"
 unfoldable pub count_refusal : List ℕ → ℕ
@@ -83,20 +83,20 @@ count_refusal w =
     test 1 (not (every (length w / 4) (λ i. leb (record_at w i).verdict 255))) ∷
     [])
 
-abbrev pub count_is : ℕ → List Record → Count
-count_is zero rs = counted rs
-count_is (suc k) rs = Refused (suc k)
+-- What a count answers
+abbrev pub Count : Type 0
+Count = Result Tally Refusal
 
 unfoldable pub verdict_count : List ℕ → Count
-verdict_count w = count_is (count_refusal w) (records (length w / 4) w)
+verdict_count w = answered (count_refusal w) (counted (records (length w / 4) w))
 
 -- The count over a node's log: 1 for a table that is not sound, then 3 for a node out of range
 unfoldable pub node_count : List ℕ → ℕ → Count
-node_count t p = count_is (first (test 1 (not (sound t)) ∷ test 3 (absent t p) ∷ [])) (node t p).log
+node_count t p = answered (first (test 1 (not (sound t)) ∷ test 3 (absent t p) ∷ [])) (counted (node t p).log)
 
 abbrev pub count_values : Count → List ℕ
-count_values (Counted s t g) = 0 ∷ s ∷ t ∷ g ∷ []
-count_values (Refused k) = k ∷ 0 ∷ 0 ∷ 0 ∷ []
+count_values (Ok x) = 0 ∷ x.scrubbed ∷ x.touched ∷ x.gap ∷ []
+count_values (Err r) = number_of r ∷ 0 ∷ 0 ∷ 0 ∷ []
 
 -- Document 01's values of each class: its first and its last verdict byte
 abbrev pub class_range : Class → List ℕ

@@ -1,28 +1,17 @@
--- Laws of a number's digits: a digit that is no decimal one is a letter, and a field at a byte's place.
+-- Laws of a number's digits: a field at a byte's place.
 use mathlib.Core.Path.{◌≡◌, refl, sym, ◌∙◌, ap}
-use mathlib.Core.Bool.{Bool, true, false}
 use mathlib.Core.List.{List, [], ◌∷◌, ◌++◌}
 use Prim.Native.Nat.{ℕ, zero, suc, ◌+◌, ◌*◌, ◌≤◌, ◌<◌}
 use native.Mathlib.Omega.{arith}
 use native.Mathlib.Numerals.{add-one}
 use lib.ListN.{length, get_or, take, drop, length-drop}
 use lib.Seq.{take-suc, get_or-drop, drop-drop}
-use lib.Dec.{leb}
-use borrow.Author.Tests.{leb-true, leb-false}
 use Rattle.meaning.specs.Frames.{digit_value, bytes_of, number}
-use Rattle.meaning.proofs.FrameLaws.{digit-none, length-bytes_of, byte_at, number_snoc}
+use Rattle.meaning.proofs.FrameLaws.{length-bytes_of, byte_at, number_snoc}
 use Rattle.digits.specs.Digits.{values_of}
 use Rattle.digits.proofs.DigitLaws.{value_of}
 use Rattle.numbers.specs.Numbers.{joined_at, field_at}
-
--- a digit that is no decimal one
-pub digit_letters : (c : ℕ) → digit_value c < 16 → (48 ≤ c → c ≤ 57 → ⊥) → (65 ≤ c) × (c ≤ 70)
-digit_letters c h p = go (leb 65 c) (leb c 70) refl refl
-  where
-    go : (a b : Bool) → leb 65 c ≡ a → leb c 70 ≡ b → (65 ≤ c) × (c ≤ 70)
-    go true true x y = (leb-true 65 c x, leb-true c 70 y)
-    go true false x y = absurd (omega (arith, digit-none c p (λ u v. omega (arith, leb-false c 70 y))))
-    go false b x y = absurd (omega (arith, digit-none c p (λ u v. omega (arith, leb-false 65 c x))))
+use Rattle.std.specs.Int.{w32, from_be_bytes}
 
 -- a field of one byte, of two and of four
 pub first_byte : (bs : List ℕ) → number (take 1 bs) ≡ get_or bs 0 0
@@ -49,14 +38,13 @@ field_more l at k h =
     let more : take (k + 1) bs ≡ take k bs ++ (get_or bs k 0 ∷ []) = rw add-one (take-suc bs k 0 room) in
     rw more (omega (arith, number_snoc (take k bs) (get_or bs k 0)))
 
-pub field_two : (l : List ℕ) (at : ℕ) → 2 * (at + 2) ≤ length l → 256 * field_at l at 1 + field_at l (at + 1) 1 ≡ field_at l at 2
-field_two l at h = field_more l at 1 (omega arith)
+-- a number of four bytes
+pub be_four : (a b c d : ℕ) → from_be_bytes w32 (a ∷ b ∷ c ∷ d ∷ []) ≡ 256 * (256 * (256 * a + b) + c) + d
+be_four a b c d = omega arith
 
-pub field_four : (l : List ℕ) (at : ℕ) → 2 * (at + 4) ≤ length l → 65536 * field_at l at 2 + field_at l (at + 2) 2 ≡ field_at l at 4
-field_four l at h =
-    let next : at + 2 + 1 ≡ at + 3 = omega arith in
-    let low : 256 * field_at l (at + 2) 1 + field_at l (at + 3) 1 ≡ field_at l (at + 2) 2 = rw next at (field_two l (at + 2) (omega arith)) in
-    omega (arith, low, field_more l at 2 (omega arith), field_more l at 3 (omega arith))
+pub field_four : (l : List ℕ) (at : ℕ) → 2 * (at + 4) ≤ length l
+    → 256 * (256 * (256 * field_at l at 1 + field_at l (at + 1) 1) + field_at l (at + 2) 1) + field_at l (at + 3) 1 ≡ field_at l at 4
+field_four l at h = omega (arith, field_more l at 1 (omega arith), field_more l at 2 (omega arith), field_more l at 3 (omega arith))
 
 -- a field from the digits' numbers, at any byte's place and of any width
 pub joined_field : (l : List ℕ) (at w : ℕ) → 2 * (at + w) ≤ length l → joined_at (values_of l) (2 * at) w ≡ field_at l at w
@@ -81,3 +69,13 @@ bytes_after (h ∷ (c ∷ cs)) = refl
 pub field_after : (l : List ℕ) (at w : ℕ) → field_at (drop 2 l) at w ≡ field_at l (1 + at) w
 unfolding field_at
 field_after l at w = rw (bytes_after l, drop-drop at 1 (bytes_of l)) refl
+
+-- four bytes from the digits' numbers
+pub joined_four : (v : List ℕ) (at : ℕ)
+    → 256 * (256 * (256 * joined_at v at 1 + joined_at v (at + 2) 1) + joined_at v (at + 4) 1) + joined_at v (at + 6) 1 ≡ joined_at v at 4
+unfolding joined_at
+joined_four v at =
+    let a : at + 2 + 2 * 0 ≡ at + 2 = omega arith in
+    let b : at + 4 + 2 * 0 ≡ at + 4 = omega arith in
+    let c : at + 6 + 2 * 0 ≡ at + 6 = omega arith in
+    rw (a, b, c) (omega arith)

@@ -2,11 +2,12 @@
 // knows a kind. Inner functions: what they require, `faults`, `contents`, `reading`, `six` and `turns` show.
 #![tactic(auto)]
 
-ghost use Rattle.std.specs.Prelude.{◌≡◌, ◌+◌, ◌*◌, ◌≤◌, ◌<◌};
+ghost use Rattle.std.specs.Prelude.{◌≡◌, ◌+◌, ◌*◌, ◌<◌};
 ghost use Rattle.meaning.specs.Frames.{digit_value};
 ghost use Rattle.numbers.specs.Numbers.{joined_at, Joins, field_at, Within};
 
 // The byte of the two digits at a place, by their numbers.
+#[tactic(auto, unfolding(crate::specs::Numbers::joined_at))]
 pub fn byte_of(v: &[u8], at: usize) -> u8
     requires { Joins v.now at 1 }
     ensures { result ≡ joined_at v.now at 1 }
@@ -14,23 +15,21 @@ pub fn byte_of(v: &[u8], at: usize) -> u8
     16 * v[at] + v[at + 1]
 }
 
-// Two bytes' number.
-fn half_of(v: &[u8], at: usize) -> u32
-    requires { Joins v.now at 2 }
-    ensures { (result ≡ joined_at v.now at 2) × (result ≤ 65535) }
-{
-    4096 * (v[at] as u32) + 256 * (v[at + 1] as u32) + 16 * (v[at + 2] as u32) + v[at + 3] as u32
-}
-
 // The word of the eight digits at a place, by their numbers.
 pub fn word_of(v: &[u8], at: usize) -> u32
     requires { Joins v.now at 4 }
     ensures { result ≡ joined_at v.now at 4 }
 {
-    65536 * half_of(v, at) + half_of(v, at + 4)
+    u32::from_be_bytes([
+        byte_of(v, at),
+        byte_of(v, at + 2),
+        byte_of(v, at + 4),
+        byte_of(v, at + 6),
+    ])
 }
 
-// The number of a character that is known to be a digit.
+// The number of a character that is known to be a digit: one comparison fewer than `digits` makes of any character.
+#[tactic(auto, unfolding(meaning::specs::Frames::digit_value))]
 fn value(c: u8) -> u8
     requires { digit_value c < 16 }
     ensures { result ≡ digit_value c }
@@ -50,6 +49,7 @@ fn pair(high: u8, low: u8) -> u8
 }
 
 // A field of one byte, in a line of digits.
+#[tactic(auto, using(meaning::proofs::FrameLaws::digits_at, crate::proofs::NumberLaws::byte_field))]
 pub fn byte(s: &[u8], at: usize) -> u8
     requires { Within s.now at 1 }
     ensures { result ≡ field_at s.now at 1 }
@@ -57,18 +57,15 @@ pub fn byte(s: &[u8], at: usize) -> u8
     pair(s[2 * at], s[2 * at + 1])
 }
 
-// Two bytes' number, in a line of digits.
-fn half(s: &[u8], at: usize) -> u32
-    requires { Within s.now at 2 }
-    ensures { (result ≡ field_at s.now at 2) × (result ≤ 65535) }
-{
-    256 * (byte(s, at) as u32) + byte(s, at + 1) as u32
-}
-
 // A field of four bytes, high byte first, in a line of digits.
 pub fn word(s: &[u8], at: usize) -> u32
     requires { Within s.now at 4 }
     ensures { result ≡ field_at s.now at 4 }
 {
-    65536 * half(s, at) + half(s, at + 2)
+    u32::from_be_bytes([
+        byte(s, at),
+        byte(s, at + 1),
+        byte(s, at + 2),
+        byte(s, at + 3),
+    ])
 }

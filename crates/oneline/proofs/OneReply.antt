@@ -2,7 +2,7 @@
 use mathlib.Core.Path.{sym, ap₂, ◌∙◌}
 use mathlib.Core.List.{List}
 use Prim.Native.Nat.{ℕ}
-use Rattle.meaning.specs.declared.Answer.{Answer}
+use Rattle.meaning.specs.Lines.{Answer}
 use Rattle.meaning.proofs.OneReply.{OneReply}
 use Rattle.oneline.proofs.apply_line.Kinds as apply_line_kinds
 use Rattle.oneline.proofs.apply_line.Reads as apply_line

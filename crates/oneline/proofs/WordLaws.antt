@@ -10,13 +10,14 @@ use borrow.Author.Tests.{eqb-true, eqb-false, eq-eqb, ne_eqb, ltb-true}
 use Rattle.meaning.specs.declared.Action.{Action}
 use Rattle.meaning.specs.declared.Action.TheVariants.{Write, Session, Purge, Deliver}
 use Rattle.meaning.specs.declared.Step.{Step}
+use Rattle.std.specs.Prelude.{Option, Some, None, Ok, Err}
 use Rattle.meaning.specs.declared.Fault.{Fault}
-use Rattle.meaning.specs.declared.Line.{Line}
-use Rattle.meaning.specs.declared.Line.TheVariants.{Begin, Act, Refused}
-use Rattle.meaning.specs.declared.Reply.{Reply}
-use Rattle.meaning.specs.declared.Answer.{Answer}
+use Rattle.meaning.specs.declared.Said.TheVariants.{Begin, Act}
+use Rattle.meaning.specs.declared.Refusal.TheVariants.{StartWrong}
+use Rattle.meaning.specs.Refusals.{answered_at, fault}
+use Rattle.meaning.proofs.RefusalLaws.{fault_name}
 use Rattle.meaning.specs.Table.{place}
-use Rattle.meaning.specs.Steps.{reply, after}
+use Rattle.meaning.specs.Steps.{Reply, reply, after}
 use Rattle.meaning.specs.Frames.{
   bytes_of,
   journal_kinds,
@@ -28,22 +29,20 @@ use Rattle.meaning.specs.Frames.{
   line_kind,
   line_refusal,
   line_place,
-  line_fault,
+  Line,
   meant,
-  line_is,
   read_line,
   line_values,
   padded,
   six_values,
   ReadWords,
 }
-use Rattle.meaning.specs.Lines.{reply_to, refused_at, left_by, line_reply, line_after}
+use Rattle.meaning.specs.Lines.{of_step, reply_to, left_by, line_reply, line_after}
 use Rattle.meaning.proofs.RowLaws.{and_left, and_right}
-use Rattle.meaning.proofs.FrameLaws.{words_refused, words_full}
+use Rattle.meaning.proofs.FrameLaws.{words_refused, words_full, read_refused, read_none}
 use Rattle.meaning.proofs.FrameTheorems.{step_framed}
 use Rattle.looks.specs.Applied.{Applied}
-use Rattle.reading.proofs.LineLaws.{line_refused}
-use Rattle.oneline.specs.OneLine.{refused_line, step_in, AppliedLine}
+use Rattle.oneline.specs.OneLine.{step_in, step_at, AppliedLine}
 
 -- the words lent, and the six of a line put over them
 abbrev zeros : List ℕ
@@ -55,28 +54,21 @@ six x = place 0 (padded 6 (drop 2 (line_values x))) zeros
 abbrev six_of : Action → List ℕ
 six_of x = place 0 (padded 6 (kind_of x ∷ fields_of x)) zeros
 
--- a step's answer, which has no place
-abbrev pub stepped_line : Reply → Answer
-stepped_line r = record { reply = r; place = 0 }
-
 -- the line's number is the step's only: what the line does to a table goes without it
-abbrev answer_of : List ℕ → Line → Answer
-answer_of t x = record { reply = reply_to t x; place = refused_at x }
-
-unnumbered : (t l : List ℕ) → (answer_of t (read_line 0 l) ≡ line_reply t l) × (left_by t (read_line 0 l) ≡ line_after t l)
+unnumbered : (t l : List ℕ) → (reply_to t (read_line 0 l) ≡ line_reply t l) × (left_by t (read_line 0 l) ≡ line_after t l)
 unfolding line_reply line_after read_line
 unnumbered t l = go (line_refusal l) (eqb (line_kind (bytes_of l)) 0)
   where
     said : ℕ → ℕ → Bool → Line
-    said line k b = line_is k (line_place l) (meant line (bytes_of l) b)
+    said line k b = answered_at k (line_place l) (meant line (bytes_of l) b)
 
-    go : (k : ℕ) (b : Bool) → (answer_of t (said 0 k b) ≡ answer_of t (said 1 k b)) × (left_by t (said 0 k b) ≡ left_by t (said 1 k b))
+    go : (k : ℕ) (b : Bool) → (reply_to t (said 0 k b) ≡ reply_to t (said 1 k b)) × (left_by t (said 0 k b) ≡ left_by t (said 1 k b))
     go zero true = (refl, refl)
     go zero false = (refl, refl)
     go (suc k) b = (refl, refl)
 
-by_line : (t l : List ℕ) (x : Line) → read_line 0 l ≡ x → AppliedLine t l (answer_of t x) (left_by t x)
-by_line t l x e = (ap (answer_of t) (sym e) ∙ (unnumbered t l).0, ap (left_by t) (sym e) ∙ (unnumbered t l).1)
+by_line : (t l : List ℕ) (x : Line) → read_line 0 l ≡ x → AppliedLine t l (reply_to t x) (left_by t x)
+by_line t l x e = (ap (reply_to t) (sym e) ∙ (unnumbered t l).0, ap (left_by t) (sym e) ∙ (unnumbered t l).1)
 
 -- the first word of a step is not 0
 kind_some : (x : Action) → kind_of x ≡ 0 → ⊥
@@ -87,17 +79,15 @@ kind_some (Deliver p) e = omega (arith, e)
 
 -- a line with no refusal is a start or a step
 abbrev Accepted : Line → Type 0
-Accepted (Begin n) = Unit
-Accepted (Act s) = Unit
-Accepted (Refused k p) = ⊥
+Accepted (Ok x) = Unit
+Accepted (Err f) = ⊥
 
 not_refused : (l : List ℕ) → line_refusal l ≡ 0 → Accepted (read_line 0 l)
 unfolding read_line
 not_refused l z = rw z (go (eqb (line_kind (bytes_of l)) 0))
   where
-    go : (b : Bool) → Accepted (meant 0 (bytes_of l) b)
-    go true = tt
-    go false = tt
+    go : (b : Bool) → Accepted (Ok (meant 0 (bytes_of l) b))
+    go b = tt
 
 -- the first of a step's six words is its kind
 kind_told : (x : Action) (v : List ℕ) → v ≡ six_of x → get_or v 0 0 ≡ kind_of x
@@ -153,9 +143,6 @@ module _ (kind a b c d e : ℕ) where
         (ltb-true b 256 (and_left (ltb b 256) (fit (4 ∷ 4 ∷ 1 ∷ []) (c ∷ d ∷ e ∷ [])) from_b), ltb-true e 256 (and_left (ltb e 256) true from_o))
 
 -- the step of a step's six words is that step
-abbrev step_at : List ℕ → Action
-step_at v = step_in (get_or v 0 0) (get_or v 1 0) (get_or v 2 0) (get_or v 3 0) (get_or v 4 0) (get_or v 5 0)
-
 step_told : (x : Action) (v : List ℕ) → v ≡ six_of x → step_at v ≡ x
 unfolding step_in place padded
 step_told (Write p t b w) v e = rw e refl
@@ -169,58 +156,59 @@ applied_as t e d = (d.0 ∙ ap (reply t) e, d.1 ∙ ap (after t) e)
 -- A line that is a step, and its words
 pub record Steps (l v : List ℕ) : Type 0 where
   pub step : Step
-  pub says : read_line 0 l ≡ Act step
+  pub says : read_line 0 l ≡ Ok (Act step)
   pub words : v ≡ six_of step.action
 
 -- one line read into six words that were 0
-module _ (t l v : List ℕ) (f : Fault) (read : ReadWords l zeros f v) where
-  pub word_refused : (f.number ≡ 0 → ⊥) → AppliedLine t l (refused_line f.number f.place) t
-  word_refused h =
-      let wrong : line_refusal l ≡ 0 → ⊥ = λ z. h (ap (λ (x : Fault). x.number) (read.0 ∙ sym (words_full l zeros z (omega arith)).0)) in
-      let fault = read.0 ∙ sym (words_refused l zeros wrong).0 in
-      by_line t l (Refused f.number f.place) (sym (line_refused l 0 f fault wrong))
+module _ (t l v : List ℕ) (f : Option Fault) (read : ReadWords l zeros f v) where
+  pub word_refused : (x : Fault) → f ≡ Some x → AppliedLine t l (Err x) t
+  word_refused x is =
+      let wrong : line_refusal l ≡ 0 → ⊥ = λ z. not_both x (sym is ∙ read.0 ∙ sym (words_full l zeros z (omega arith)).0) in
+      let fault = (words_refused l zeros wrong).0 ∙ sym read.0 ∙ is in
+      by_line t l (Err x) (sym (read_refused 0 l x fault))
+    where
+      not_both : (y : Fault) → Some y ≡ None → ⊥
+      not_both y e = let z : ◌≡◌ {A = ℕ} 0 1 = cc in omega arith
 
-  module _ (fine : f.number ≡ 0) where
+  module _ (fine : f ≡ None) where
     clear : line_refusal l ≡ 0
-    unfolding line_fault
     clear = go (eqb (line_refusal l) 0) refl
       where
         go : (b : Bool) → eqb (line_refusal l) 0 ≡ b → line_refusal l ≡ 0
         go true x = eqb-true (line_refusal l) 0 x
-        go false x =
-            ap (λ (y : Fault). y.number) ((words_refused l zeros (eqb-false (line_refusal l) 0 x)).0 ∙ sym read.0) ∙ fine
+        go false x = read_none l ((words_refused l zeros (eqb-false (line_refusal l) 0 x)).0 ∙ sym read.0 ∙ fine)
 
     told : v ≡ six (read_line 0 l)
     unfolding six_values
     told = read.1 ∙ sym (words_full l zeros clear (omega arith)).1
 
     -- a start
-    pub word_start : get_or v 0 0 ≡ 0 → AppliedLine t l (refused_line 15 0) t
+    pub word_start : get_or v 0 0 ≡ 0 → AppliedLine t l (Err (record { refusal = StartWrong; place = 0 })) t
     unfolding place padded
-    word_start z = go (read_line 0 l) refl (not_refused l clear) told
+    word_start z = rw (sym (fault_name StartWrong 15 0 refl)) (go (read_line 0 l) refl (not_refused l clear) told)
       where
-        go : (x : Line) → read_line 0 l ≡ x → Accepted x → v ≡ six x → AppliedLine t l (refused_line 15 0) t
-        go (Begin n) e a w = by_line t l (Begin n) e
-        go (Act s) e a w = absurd (kind_some s.action (sym (kind_told s.action v w) ∙ z))
-        go (Refused k p) e a w = absurd a
+        go : (x : Line) → read_line 0 l ≡ x → Accepted x → v ≡ six x → AppliedLine t l (Err (fault 15 0)) t
+        go (Ok (Begin n)) e a w = by_line t l (Ok (Begin n)) e
+        go (Ok (Act s)) e a w = absurd (kind_some s.action (sym (kind_told s.action v w) ∙ z))
+        go (Err x) e a w = absurd a
 
     -- a step
     pub word_step : (get_or v 0 0 ≡ 0 → ⊥) → Steps l v
     unfolding place padded
-    word_step h = go (read_line 0 l) refl told
+    word_step h = go (read_line 0 l) refl (not_refused l clear) told
       where
-        go : (x : Line) → read_line 0 l ≡ x → v ≡ six x → Steps l v
-        go (Begin n) e w = absurd (h (ap (λ (y : List ℕ). get_or y 0 0) w))
-        go (Act s) e w = record { step = s; says = e; words = w }
-        go (Refused k p) e w = absurd (h (ap (λ (y : List ℕ). get_or y 0 0) w))
+        go : (x : Line) → read_line 0 l ≡ x → Accepted x → v ≡ six x → Steps l v
+        go (Ok (Begin n)) e a w = absurd (h (ap (λ (y : List ℕ). get_or y 0 0) w))
+        go (Ok (Act s)) e a w = record { step = s; says = e; words = w }
+        go (Err x) e a w = absurd a
 
 -- its fields fit, and what it does to a table
 module _ (l v : List ℕ) (x : Steps l v) where
   pub fits : wide (step_at v) ≡ true
   fits = ap wide (step_told x.step.action v x.words) ∙ (step_framed 0 l x.step x.says).fits
 
-  pub stepped : (t : List ℕ) {r : Reply} {t' : List ℕ} → Applied t (step_at v) r t' → AppliedLine t l (stepped_line r) t'
+  pub stepped : (t : List ℕ) {r : Reply} {t' : List ℕ} → Applied t (step_at v) r t' → AppliedLine t l (of_step r) t'
   stepped t d =
       let is = applied_as t (step_told x.step.action v x.words) d in
-      let done = by_line t l (Act x.step) x.says in
-      (ap stepped_line is.0 ∙ done.0, is.1 ∙ done.1)
+      let done = by_line t l (Ok (Act x.step)) x.says in
+      (ap of_step is.0 ∙ done.0, is.1 ∙ done.1)

@@ -1,5 +1,5 @@
 -- The different pairs of a list of records as the code keeps them: 64 slots, each with a chain of records that stand for their pairs. A head is 1 and
--- the record's row, or 0 for none; a link is the same of the next record of the chain. Document 02, T-05.
+-- the record's row, or 0 for none; a link is the same of the next record of the chain.
 use Rattle.std.specs.Prelude.{◌≡◌, Bool, true, false, not, ◌&&◌, List, map, ℕ, ◌+◌, ◌-◌, ◌*◌, ◌/◌, ◌%◌, ◌<◌, ◌≤◌, length, get_or, drop, ltb}
 use Rattle.meaning.specs.declared.Record.{Record}
 use Rattle.meaning.specs.Rows.{record_at, records}

@@ -2,7 +2,7 @@
 ghost use Rattle.std.specs.Prelude.{[], ◌∷◌};
 ghost use Rattle.answers.specs.Told.{LineTold, LinesTold};
 
-use answers::{first_of, number_of, second_of};
+use answers::{first_of, locate, second_of};
 
 // Reads a line, without its LF, and applies its step; what a session carried to each side, a purge removed or a delivery would give is stored,
 // and the place in the line where it is the line that is refused, else 0.
@@ -17,12 +17,19 @@ pub extern "C" fn pollencart_apply_line(
     ensures { LineTold table.old line.now
         (result ∷ first.new ∷ second.new ∷ place.new ∷ []) table.new }
 {
-    let answer = oneline::apply_line(table, line);
-    let reply = answer.reply;
-    *first = first_of(reply);
-    *second = second_of(reply);
-    *place = answer.place;
-    number_of(reply)
+    match oneline::apply_line(table, line) {
+        Ok(report) => {
+            *first = first_of(Ok(report));
+            *second = second_of(Ok(report));
+            *place = 0;
+            0
+        }
+        Err(fault) => {
+            *first = 0;
+            *second = 0;
+            locate(Some(fault), place)
+        }
+    }
 }
 
 // Reads lines, each ended by an LF, and applies their steps, up to the first refused line; how far they came and the place in that line are
@@ -43,6 +50,5 @@ pub extern "C" fn pollencart_apply_lines(
     *applied = came.steps;
     *refused = came.refused;
     *stopped = came.stop;
-    *place = came.place;
-    came.number
+    locate(came.fault, place)
 }

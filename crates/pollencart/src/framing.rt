@@ -2,7 +2,8 @@
 ghost use Rattle.std.specs.Prelude.{◌≡◌, [], ◌∷◌, ◌+◌, get_or};
 ghost use Rattle.meaning.specs.declared.Action.TheVariants.{Write, Session, Purge, Deliver};
 ghost use Rattle.meaning.specs.Frames.{read_line, line_fault, line_values};
-ghost use Rattle.answers.specs.Told.{LineRead, Framed, Started, fault_values};
+ghost use Rattle.meaning.specs.Refusals.{fault_values};
+ghost use Rattle.answers.specs.Told.{LineRead, Framed, Started};
 
 use answers::{locate, report};
 

@@ -11,7 +11,10 @@ use answers::{first_of, number_of, second_of};
 pub extern "C" fn pollencart_fresh(table: &mut [u32], n: u32) -> u32
     ensures { (result ≡ fresh_refusal table.old n) × (table.new ≡ made_fresh table.old n) }
 {
-    table::fresh(table, n)
+    match table::fresh(table, n) {
+        Ok(()) => 0,
+        Err(refusal) => refusal.into(),
+    }
 }
 
 // A node writes a finding of its own.

@@ -1,3 +1,4 @@
 pub mod Writing
+pub mod Printing
 pub mod Decimal
 pub mod OneReply

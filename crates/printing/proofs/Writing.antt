@@ -19,13 +19,13 @@ wrote_none t at most = record { to = omega arith; within = omega arith; is = sym
 pub wrote_one : (t : List ℕ) (at b : ℕ) → at + 1 ≤ length t → Wrote t at (b ∷ []) 1 (at + 1) (set t at b)
 wrote_one t at b fits = record { to = refl; within = omega arith; is = set-place t at b (omega arith) }
 
-pub wrote_then : {t t' t'' : List ℕ} {at to to' : ℕ} {xs ys : List ℕ} {most most' : ℕ} → at + (most + most') ≤ length t
+pub wrote_then : {t t' t'' : List ℕ} {at to to' : ℕ} {xs ys : List ℕ} {most most' : ℕ} → to + length ys ≤ length t
     → Wrote t at xs most to t' → Wrote t' to ys most' to' t'' → Wrote t at (xs ++ ys) (most + most') to' t''
 wrote_then {t = t} {at = at} {to = to} {xs = xs} {ys = ys} h w w' =
     record {
       to = omega (arith, w.to, w'.to, length-append xs ys);
       within = omega (arith, w.within, w'.within);
-      is = w'.is ∙ rw w.is (place-append at to xs ys t w.to (omega (arith, w.to, w.within, w'.to, w'.within)));
+      is = w'.is ∙ rw w.is (place-append at to xs ys t w.to h);
     }
 
 -- what was written, by another name and with a wider bound

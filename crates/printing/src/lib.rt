@@ -1,48 +1,56 @@
-// Bytes and numbers in decimal, printed into a lent buffer. Document 01, "Frames and journals": what the replay prints.
-// Each function writes at a place and answers the place after what it wrote; its caller shows that there is room.
+// Bytes and numbers in decimal, printed into a lent buffer one after the other.
+// Each method writes at the printer's place and leaves there the place after what it wrote; its caller shows that there is room.
 #![tactic(auto)]
 
-ghost use Rattle.std.specs.Prelude.{[], ◌∷◌, ◌+◌, ◌≤◌, length};
+ghost use Rattle.std.specs.Prelude.{[], ◌∷◌};
 ghost use Rattle.meaning.specs.Journals.{decimal_in, decimal, spaced};
-ghost use Rattle.printing.specs.Wrote.{Wrote};
+ghost use Rattle.printing.specs.Printed.{Printed, Room};
 
-// One byte.
-pub fn put(out: &mut [u8], at: usize, b: u8) -> usize
-    requires { at + 1 ≤ length out.old }
-    ensures { Wrote out.old at (b ∷ []) 1 result out.new }
-{
-    out[at] = b;
-    at + 1
+// A lent buffer and the place in it where the next byte goes.
+#[derive(Drop)]
+pub struct Printer<'a> {
+    pub out: &'a mut [u8],
+    pub at: usize,
 }
 
-// A number in decimal, of at most so many digits, the higher ones first.
-fn digits(out: &mut [u8], at: usize, most: usize, v: usize) -> usize
-    requires { at + most ≤ length out.old }
-    ensures { Wrote out.old at (decimal_in most v) most result out.new }
-{
-    if most == 0 {
-        return at;
+impl<'a> Printer<'a> {
+    // One byte.
+    pub fn put(&mut self, b: u8)
+        requires { Room self.old 1 }
+        ensures { Printed self.old (b ∷ []) 1 self.new }
+    {
+        self.out[self.at] = b;
+        self.at += 1;
     }
-    if v < 10 {
-        return put(out, at, (48 + v % 10) as u8);
+
+    // A number in decimal, of at most so many digits, the higher ones first.
+    fn digits(&mut self, most: usize, v: usize)
+        requires { Room self.old most }
+        ensures { Printed self.old (decimal_in most v) most self.new }
+    {
+        if most == 0 {
+            return;
+        }
+        if v >= 10 {
+            self.digits(most - 1, v / 10);
+        }
+        self.put(b'0' + (v % 10) as u8);
     }
-    let end = digits(out, at, most - 1, v / 10);
-    put(out, end, (48 + v % 10) as u8)
-}
 
-// A number in decimal: 20 digits are enough for every one.
-pub fn number(out: &mut [u8], at: usize, v: usize) -> usize
-    requires { at + 20 ≤ length out.old }
-    ensures { Wrote out.old at (decimal v) 20 result out.new }
-{
-    digits(out, at, 20, v)
-}
+    // A number in decimal: 20 digits are enough for every one.
+    pub fn number(&mut self, v: usize)
+        requires { Room self.old 20 }
+        ensures { Printed self.old (decimal v) 20 self.new }
+    {
+        self.digits(20, v);
+    }
 
-// A number with a space before it.
-pub fn entry(out: &mut [u8], at: usize, v: usize) -> usize
-    requires { at + 21 ≤ length out.old }
-    ensures { Wrote out.old at (spaced (v ∷ [])) 21 result out.new }
-{
-    let next = put(out, at, b' ');
-    number(out, next, v)
+    // A number with a space before it.
+    pub fn entry(&mut self, v: usize)
+        requires { Room self.old 21 }
+        ensures { Printed self.old (spaced (v ∷ [])) 21 self.new }
+    {
+        self.put(b' ');
+        self.number(v);
+    }
 }

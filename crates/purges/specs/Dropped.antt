@@ -1,13 +1,14 @@
 -- What dropping records of a node requires and settles, on either form: how many are left, and the words at exit; and what a purge settles whose counts
 -- nobody reads.
-use Rattle.std.specs.Prelude.{◌≡◌, Bool, List, ℕ, ◌*◌, ◌≤◌, ◌<◌, length}
+use Rattle.std.specs.Prelude.{◌≡◌, Bool, List, ℕ, ◌*◌, ◌≤◌, ◌<◌, length, Result, Ok, Err}
 use Rattle.meaning.specs.declared.Action.{Action}
 use Rattle.meaning.specs.declared.Record.{Record}
+use Rattle.meaning.specs.declared.Refusal.{Refusal}
 use Rattle.meaning.specs.Table.{form_of, log_at, log_most, count, held, node, part, put_node, Sound}
 use Rattle.meaning.specs.Node.{purged}
-use Rattle.meaning.specs.Steps.{refusal, leaving, lagging, after}
-use Rattle.meaning.specs.Journals.{one_if}
-use Rattle.logs.specs.Carry.{Puts, stay, AllBarred}
+use Rattle.meaning.specs.Steps.{Reply, reply, leaving, lagging, after}
+use Rattle.records.specs.Tests.{Askable, Follows}
+use Rattle.logs.specs.Carry.{Puts, stay}
 
 -- where node p's log begins, and its words
 abbrev pub log_from : ℕ → List ℕ → ℕ
@@ -16,13 +17,18 @@ log_from p t = log_at (form_of t) p
 abbrev pub log_of : ℕ → List ℕ → List ℕ
 log_of p t = part (log_from p t) (4 * log_most) t
 
--- A node of a sound table, how many records it holds, and, where records are held to a row of bars, an entry in it for the origin of each
-pub record Drops (t : List ℕ) (p k : ℕ) (barred : Bool) (bars : List ℕ) : Type 0 where
+-- the words of its first k records
+abbrev pub held_rows : ℕ → ℕ → List ℕ → List ℕ
+held_rows p k t = part (log_from p t) (4 * k) t
+
+-- A node of a sound table, how many records it holds, and a test that may be asked of each and tells which of them a purge lets go
+pub record Drops (t : List ℕ) (p k : ℕ) (pre : Record → Type 0) (post : Record → Bool → Type 0) : Type 0 where
   pub is_sound : Sound t
   pub there : p < count t
   pub many : k ≡ held t p
   pub room : k ≤ log_most
-  pub each : AllBarred barred bars (node t p).log
+  pub askable : Askable pre (held_rows p k t)
+  pub follows : Follows post (leaving t p) (held_rows p k t)
 
 -- the records that stay, put where the log begins
 abbrev pub Closed : List ℕ → ℕ → (Record → Bool) → ℕ → List ℕ → Type 0
@@ -33,9 +39,8 @@ pub record Dropped (t : List ℕ) (p : ℕ) (leaves : Record → Bool) (r : ℕ)
   pub many : r ≡ length (purged leaves (node t p)).log
   pub puts : u ≡ put_node p (purged leaves (node t p)) t
 
--- A node of a sound table, n its count, and how many records it holds
+-- A node of a table, n its count, and how many records it holds
 pub record Cuts (t : List ℕ) (p n k : ℕ) : Type 0 where
-  pub is_sound : Sound t
   pub nodes : n ≡ count t
   pub there : p < n
   pub many : k ≡ held t p
@@ -47,6 +52,10 @@ pub record CutDone (t : List ℕ) (p n k left at : ℕ) (u : List ℕ) : Type 0 
   pub lags : at ≡ lagging t p
   pub below : at < n
 
--- one step: 1 where it is refused, else 0, and the words at exit
-abbrev pub Passed : List ℕ → Action → ℕ → List ℕ → Type 0
-Passed t x k u = (k ≡ one_if (refusal t x)) × (u ≡ after t x)
+-- what is told of a step of which only its refusal is, and the words at exit
+abbrev pub passed : Reply → Result (Unit {0}) Refusal
+passed (Ok report) = Ok tt
+passed (Err r) = Err r
+
+abbrev pub Passed : List ℕ → Action → Result (Unit {0}) Refusal → List ℕ → Type 0
+Passed t x r u = (r ≡ passed (reply t x)) × (u ≡ after t x)

@@ -6,7 +6,7 @@ ghost use Rattle.std.specs.Prelude.{◌≡◌, ◌<◌, length};
 ghost use Rattle.heads.specs.Heads.{is_outcome, short_of, accepted};
 
 use digits::total;
-use heads::{NO_LINE, short_line};
+use heads::{Short, short_line};
 
 // Whether 24 characters are a write's.
 pub fn is_write(s: &[u8]) -> bool
@@ -19,10 +19,11 @@ pub fn is_write(s: &[u8]) -> bool
     if s[1] != b'1' {
         return false;
     }
-    total(s) == 0
+    total(s) == Some(0)
 }
 
 // Whether two characters are an outcome's, 0 to 3.
+#[tactic(auto, unfolding(heads::specs::Heads::is_outcome))]
 fn is_outcome(high: u8, low: u8) -> bool
     ensures { result ≡ is_outcome high low }
 {
@@ -49,16 +50,18 @@ pub fn is_session(s: &[u8]) -> bool
     if !is_outcome(s[22], s[23]) {
         return false;
     }
-    total(&s[2..26]) == 254
+    total(&s[2..26]) == Some(254)
 }
 
-// What a line shorter than a write's holds, as a line of six characters; no other is accepted.
-pub fn short_held(s: &[u8]) -> u32
+// What a line shorter than a write's holds, as a line of six characters; no other is accepted. It is compiled into its callers, so that no Option goes
+// through memory.
+#[inline(always)]
+pub fn short_held(s: &[u8]) -> Option<Short>
     requires { length s.now < 24 }
     ensures { result ≡ short_of s.now }
 {
     if s.len() != 6 {
-        return NO_LINE;
+        return None;
     }
     short_line(s[0], s[1], s[2], s[3], s[4], s[5])
 }
@@ -68,7 +71,7 @@ pub fn sure(s: &[u8]) -> bool
     ensures { result ≡ accepted s.now }
 {
     if s.len() < 24 {
-        return short_held(s) < NO_LINE;
+        return short_held(s).is_some();
     }
     match s.len() {
         24 => is_write(&s[0..24]),

@@ -14,18 +14,17 @@ use contract.Notation.{connectives}
 use denote.Ref.{Bor}
 use denote.Triple.Clauses.{AtExit}
 use denote.Triple.Entry.{Args, Res}
-use Rattle.meaning.specs.declared.Next.{Next}
-use Rattle.meaning.specs.Journals.{next_at}
+use Rattle.meaning.specs.Journals.{Next, next_at}
 use Rattle.meaning.proofs.OneReply.{OneReply, OneResult}
 use Rattle.finder.specs.Parts.{Part}
 use Rattle.lineparts.specs.Reached.{part_at, position_at}
 use Rattle.finder.proofs.OnePart.{seen, one_part}
 use Rattle.reader.specs.declared.Reader.{Reader}
 use Rattle.reader.specs.Standing.{Stands}
-use Rattle.reader.specs.contracts.new as new
-use Rattle.reader.specs.contracts.next as next
-use Rattle.reader.specs.contracts.part as part
-use Rattle.reader.specs.contracts.moved as moved
+use Rattle.reader.specs.contracts.Reader.new as new
+use Rattle.reader.specs.contracts.Reader.next as next
+use Rattle.reader.specs.contracts.Reader.part as part
+use Rattle.reader.specs.contracts.Reader.moved as moved
 use Rattle.reader.proofs.next_from.Kinds as next_from_kinds
 use Rattle.reader.proofs.next_from.Reads as next_from
 use Rattle.reader.proofs.part_from.Kinds as part_from_kinds

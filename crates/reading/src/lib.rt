@@ -1,36 +1,33 @@
-// Frames read: what a single line says, whatever its bytes. Document 01, "Frames and journals".
+// Frames read: what a single line says, whatever its bytes.
 #![tactic(auto)]
 
 ghost use Rattle.std.specs.Prelude.{◌≡◌, ◌+◌, ◌<◌, length, get_or};
 ghost use Rattle.meaning.specs.Frames.{read_line, line_fault, line_values};
 
-use meaning::{Fault, Line, Step};
+use meaning::{Fault, Line};
 
-// The refusal of a single line (without its LF) and its place in it, for any bytes at all: the first that applies, of 12, 18, 11, 19, 20, 13 and
-// 15; two zeros for none. The other way is lent a part of the slice, so that the slice itself stays in registers.
-pub fn check(s: &[u8]) -> Fault
+// What is wrong with a single line (without its LF), for any bytes at all: the first refusal that applies, with its place; none where it is accepted.
+// The other way is lent a part of the slice, so that the slice itself stays in registers.
+pub fn check(s: &[u8]) -> Option<Fault>
     ensures { result ≡ line_fault s.now }
 {
     if quick::sure(s) {
-        return Fault {
-            number: 0,
-            place: 0,
-        };
+        return None;
     }
     let n = s.len();
     faults::refusal(&s[0..n])
 }
 
 // The kind of a line shorter than a write's.
+#[tactic(auto, using(crate::proofs::LineLaws::kind_held, crate::proofs::LineLaws::kind_none))]
 fn short_kind(s: &[u8]) -> u32
     requires { length s.now < 24 }
     ensures { result ≡ get_or (line_values (read_line 0 s.now)) 2 0 }
 {
-    let held = quick::short_held(s);
-    if heads::NO_LINE <= held {
-        return 0;
+    match quick::short_held(s) {
+        Some(held) => held.kind as u32,
+        None => 0,
     }
-    held / 256
 }
 
 // The kind of a line, 0 for one that is refused. A start's is 0 too: the check tells them apart.
@@ -61,28 +58,13 @@ pub fn field(s: &[u8], index: u32) -> u32
     }
 }
 
-// What a single line (without its LF) says, for any bytes at all: the start, the step with the line number that it is told,
-// or the first refusal that applies, of 12, 18, 11, 19, 20, 13 and 15, with its place. It is read where the quick
-// way did not tell a line at once, so it asks for the refusal first; `quick::sure` has one caller, `check`, and is compiled into it.
+// What a single line (without its LF) says, for any bytes at all: the start, the step with the line number that it is told, or what is wrong with it.
+// It is read where the quick way did not tell a line at once, so it is settled first; `quick::sure` has one caller, `check`, and is compiled into it.
+#[tactic(auto, using(crate::proofs::LineLaws::line_said, crate::proofs::LineLaws::line_wrong, heads::proofs::HeadLaws::whole_part))]
 pub fn read_line(s: &[u8], line: usize) -> Line
     ensures { result ≡ read_line line s.now }
 {
     let n = s.len();
-    let fault = faults::refusal(&s[0..n]);
-    if fault.number != 0 {
-        return Line::Refused {
-            number: fault.number,
-            place: fault.place,
-        };
-    }
-    let kind = numbers::byte(s, 0);
-    if kind == 0 {
-        return Line::Begin {
-            n: numbers::byte(s, 1),
-        };
-    }
-    let action = actions::action(s, kind);
-    Line::Act {
-        step: Step { line, action },
-    }
+    let kind = faults::settle(&s[0..n])?;
+    Ok(actions::said(s, kind, line))
 }

@@ -1,1 +1,3 @@
 pub mod EntryLaws
+pub mod LeastLaws
+pub mod RaiseLaws

@@ -2,7 +2,7 @@
 use mathlib.Core.Path.{sym, ap₂, ◌∙◌}
 use mathlib.Core.List.{List, ◌∷◌}
 use Prim.Native.Nat.{ℕ}
-use Rattle.meaning.specs.declared.Outcome.{Outcome}
+use Rattle.meaning.specs.Journals.{Outcome}
 use Rattle.meaning.proofs.OneReply.{OneReply}
 use Rattle.run.proofs.run.Kinds as run_kinds
 use Rattle.run.proofs.run.Reads as run

@@ -2,18 +2,22 @@
 use mathlib.Core.Path.{◌≡◌, refl, sym, ap, ◌∙◌}
 use mathlib.Core.Bool.{true}
 use mathlib.Core.List.{List, []}
-use Prim.Native.Nat.{ℕ, zero, suc, ◌+◌, ◌≤◌, ◌<◌}
+use Prim.Native.Nat.{ℕ, zero, suc, ◌+◌, ◌≤◌}
 use native.Mathlib.Omega.{arith}
 use lib.Dec.{leb}
 use lib.ListN.{length}
 use borrow.Author.Tests.{leb-true, eq-eqb, ne_eqb}
 use Rattle.meaning.specs.declared.Step.{Step}
-use Rattle.meaning.specs.declared.Next.TheVariants.{Begin as BeginAt, Act as ActAt, Refused as RefusedAt, End}
-use Rattle.meaning.specs.declared.Outcome.{Outcome}
-use Rattle.meaning.specs.declared.Outcome.TheVariants.{Bad, Refused, Done}
+use Rattle.std.specs.Prelude.{Some, None, Ok, Err}
+use Rattle.meaning.specs.declared.NextLine.TheVariants.{Begin as BeginAt, Act as ActAt}
+use Rattle.meaning.specs.declared.Fault.{Fault}
+use Rattle.meaning.specs.declared.Refusal.TheVariants.{Unsound, StartWrong}
+use Rattle.meaning.specs.declared.Stopped.TheVariants.{Bad, Unread}
+use Rattle.meaning.specs.Refusals.{number_of, fault, fault_at}
+use Rattle.meaning.proofs.RefusalLaws.{number_above, fault_none, fault_name}
 use Rattle.meaning.specs.declared.Progress.{Progress}
 use Rattle.meaning.specs.Table.{Vectors, form_words, nodes_most, count_right, fresh, made_fresh, Sound}
-use Rattle.meaning.specs.Journals.{Journal, broken, next_at, steps_from, journal, after_all, outcome_of, replayed, started_from, replay_after}
+use Rattle.meaning.specs.Journals.{Outcome, Journal, broken, next_at, steps_from, journal, after_all, outcome_of, replayed, started_from, replay_after}
 use Rattle.meaning.proofs.RowLaws.{and_left, and_right}
 use Rattle.meaning.proofs.TableLaws.{form_is, fresh_right}
 use Rattle.meaning.proofs.StepLaws.{fresh-sound}
@@ -28,29 +32,29 @@ after_none t = refl
 
 -- how far a journal's steps came gives its outcome: to the end, or to the line after them
 module _ (s : List ℕ) (from n : ℕ) {x : Progress} {t' : List ℕ} (a : AppliedFrom s from 2 (fresh Vectors n) x t') where
-  number_is : (begun_at n s from).rest.bad_number ≡ x.number
-  number_is = sym (ap (λ (y : Progress). y.number) a.answer)
+  fault_is : fault_at (begun_at n s from).rest.bad_number (begun_at n s from).rest.bad_place ≡ x.fault
+  fault_is = sym (ap (λ (y : Progress). y.fault) a.answer)
 
   pub steps_within : x.steps ≤ length s
   steps_within = let e = ap (λ (y : Progress). y.steps) a.answer in omega (arith, e, steps_few (length s) s from 2)
 
-  pub ran_done : x.number ≡ 0 → RanFrom s from n (Done n x.steps x.refused) t'
+  pub ran_done : x.fault ≡ None → RanFrom s from n (Ok (record { n = n; steps = x.steps; refused = x.refused })) t'
   ran_done z =
-      record { outcome = rw (number_is ∙ z) (ap (λ (y : Progress). Done n y.steps y.refused) a.answer); table = a.table }
+      let clear = fault_none (begun_at n s from).rest.bad_number (begun_at n s from).rest.bad_place (fault_is ∙ z) in
+      record { outcome = rw clear (ap (λ (y : Progress). Ok (record { n = n; steps = y.steps; refused = y.refused })) a.answer); table = a.table }
 
-  bad_at : (k : ℕ) → (begun_at n s from).rest.bad_number ≡ k → 0 < k → Bad (x.steps + 2) k x.place ≡ outcome_of k (begun_at n s from)
-  bad_at zero e h = absurd (omega arith)
-  bad_at (suc k) e h =
+  bad_at : (k : ℕ) (f : Fault) → (begun_at n s from).rest.bad_number ≡ k → fault_at k (begun_at n s from).rest.bad_place ≡ Some f
+      → Err (Bad (x.steps + 2) f) ≡ outcome_of k (begun_at n s from)
+  bad_at zero f e h = absurd (cc h)
+  bad_at (suc k) f e h =
       let steps = ap (λ (y : Progress). y.steps) a.answer in
       let line = bad_line_lem (length s) s from 2 (omega (arith, e)) in
       let l : x.steps + 2 ≡ (begun_at n s from).rest.bad_line = omega (arith, steps, line) in
-      rw l (ap (λ (y : Progress). Bad (begun_at n s from).rest.bad_line (suc k) y.place) a.answer)
+      let is : f ≡ fault (suc k) (begun_at n s from).rest.bad_place = cc h in
+      rw (l, is) refl
 
-  pub ran_bad : (x.number ≡ 0 → ⊥) → RanFrom s from n (Bad (x.steps + 2) x.number x.place) t'
-  ran_bad z =
-      let h : 0 < (begun_at n s from).rest.bad_number = omega (arith, number_is) in
-      let number = ap (λ k. Bad (x.steps + 2) k x.place) (sym number_is) in
-      record { outcome = number ∙ bad_at (begun_at n s from).rest.bad_number refl h; table = a.table }
+  pub ran_bad : (f : Fault) → x.fault ≡ Some f → RanFrom s from n (Err (Bad (x.steps + 2) f)) t'
+  ran_bad f z = record { outcome = bad_at (begun_at n s from).rest.bad_number f refl (fault_is ∙ z); table = a.table }
 
 -- a fresh table is made, and is sound
 pub made_fresh_lem : (t : List ℕ) (n : ℕ) → length t ≡ form_words Vectors → count_right n ≡ true → made_fresh t n ≡ fresh Vectors n
@@ -66,7 +70,7 @@ right_sound n c =
     fresh-sound Vectors n (leb-true 2 n low) (leb-true n nodes_most high)
 
 -- a run over a table of the wrong length, and of the right one
-pub run_wrong : (t s : List ℕ) → (length t ≡ form_words Vectors → ⊥) → Ran s t (Refused 1) t
+pub run_wrong : (t s : List ℕ) → (length t ≡ form_words Vectors → ⊥) → Ran s t (Err (Unread Unsound)) t
 unfolding run_outcome run_after
 run_wrong t s h =
     let e = ne_eqb (length t) (form_words Vectors) h in
@@ -79,23 +83,24 @@ run_right t s h =
     (rw e, rw e)
 
 -- by what a journal begins with
-pub begin_is : (s : List ℕ) {n next : ℕ} → next_at s 0 1 ≡ BeginAt n next → journal s ≡ record { n = n; rest = steps_from (length s) s next 2 }
+pub begin_is : (s : List ℕ) {n next : ℕ} → next_at s 0 1 ≡ Ok (Some (BeginAt n next)) → journal s ≡ record { n = n; rest = steps_from (length s) s next 2 }
 unfolding journal
 begin_is s e = rw (e, journal)
 
-pub act_is : (s : List ℕ) {x : Step} {next : ℕ} → next_at s 0 1 ≡ ActAt x next → journal s ≡ record { n = 0; rest = broken 0 1 15 0 }
+pub act_is : (s : List ℕ) {x : Step} {next : ℕ} → next_at s 0 1 ≡ Ok (Some (ActAt x next)) → journal s ≡ record { n = 0; rest = broken 0 1 15 0 }
 unfolding journal
 act_is s e = rw (e, journal)
 
-pub refused_is : (s : List ℕ) {k p : ℕ} → next_at s 0 1 ≡ RefusedAt k p → journal s ≡ record { n = 0; rest = broken 0 1 k p }
+pub refused_is : (s : List ℕ) {f : Fault} → next_at s 0 1 ≡ Err f → journal s ≡ record { n = 0; rest = broken 0 1 (number_of f.refusal) f.place }
 unfolding journal
 refused_is s e = rw (e, journal)
 
-pub end_is : (s : List ℕ) → next_at s 0 1 ≡ End → journal s ≡ record { n = 0; rest = broken 0 1 15 0 }
+pub end_is : (s : List ℕ) → next_at s 0 1 ≡ Ok None → journal s ≡ record { n = 0; rest = broken 0 1 15 0 }
 unfolding journal
 end_is s e = rw (e, journal)
 
-pub run-begun : (t s : List ℕ) {n next : ℕ} {r : Outcome} {t' : List ℕ} → length t ≡ form_words Vectors → next_at s 0 1 ≡ BeginAt n next → count_right n ≡ true
+pub run-begun : (t s : List ℕ) {n next : ℕ} {r : Outcome} {t' : List ℕ} → length t ≡ form_words Vectors → next_at s 0 1 ≡ Ok (Some (BeginAt n next))
+    → count_right n ≡ true
     → RanFrom s next n r t' → Ran s t r t'
 unfolding replayed replay_after
 run-begun t s {n} {next} l e c x =
@@ -109,15 +114,21 @@ run-begun t s {n} {next} l e c x =
           sym (ap (λ (y : Journal). after_all (started_from y.n t) y.rest.steps) j) ∙ w.1;
     }
 
-pub run-broken : (t s : List ℕ) {k p : ℕ} → length t ≡ form_words Vectors → journal s ≡ record { n = 0; rest = broken 0 1 k p } → 0 < k → Ran s t (Bad 1 k p) t
+pub run-broken : (t s : List ℕ) (f : Fault) → length t ≡ form_words Vectors
+    → journal s ≡ record { n = 0; rest = broken 0 1 (number_of f.refusal) f.place } → Ran s t (Err (Bad 1 f)) t
 unfolding replayed replay_after
-run-broken t s {k} {p} l j h =
+run-broken t s f l j =
     let w = run_right t s l in
     record {
-      outcome = bad k h ∙ sym (ap (λ (x : Journal). outcome_of x.rest.bad_number x) j) ∙ w.0;
+      outcome = bad (number_of f.refusal) refl ∙ sym (ap (λ (x : Journal). outcome_of x.rest.bad_number x) j) ∙ w.0;
       table = sym (after_none t) ∙ sym (ap (λ (x : Journal). after_all (started_from x.n t) x.rest.steps) j) ∙ w.1;
     }
   where
-    bad : (i : ℕ) → 0 < i → Bad 1 i p ≡ outcome_of i (record { n = 0; rest = broken 0 1 i p })
-    bad zero z = absurd (omega arith)
-    bad (suc i) z = refl
+    bad : (i : ℕ) → i ≡ number_of f.refusal → Err (Bad 1 f) ≡ outcome_of i (record { n = 0; rest = broken 0 1 i f.place })
+    bad zero z = absurd (omega (arith, number_above f.refusal))
+    bad (suc i) z = ap (λ (x : Fault). Err (Bad 1 x)) (sym (fault_name f.refusal (suc i) f.place z))
+
+-- a first line that is not the start that it must be
+pub run_not_begun : (t s : List ℕ) → length t ≡ form_words Vectors → journal s ≡ record { n = 0; rest = broken 0 1 15 0 }
+    → Ran s t (Err (Bad 1 (record { refusal = StartWrong; place = 0 }))) t
+run_not_begun t s l j = run-broken t s (record { refusal = StartWrong; place = 0 }) l j

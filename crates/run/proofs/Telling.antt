@@ -9,17 +9,17 @@ use lib.Dec.{leb}
 use lib.ListN.{length}
 use borrow.Author.Tests.{leb-true, le-leb, lt-leb, lt-ltb, le-ltb, eq-eqb, ne_eqb}
 use Rattle.meaning.specs.declared.Step.{Step}
-use Rattle.meaning.specs.declared.Next.{Next}
-use Rattle.meaning.specs.declared.Next.TheVariants.{Begin as BeginAt, Act as ActAt, Refused as RefusedAt, End}
-use Rattle.meaning.specs.declared.Outcome.{Outcome}
-use Rattle.meaning.specs.declared.Outcome.TheVariants.{Refused}
+use Rattle.std.specs.Prelude.{Some, None, Ok, Err}
+use Rattle.meaning.specs.declared.NextLine.TheVariants.{Begin as BeginAt, Act as ActAt}
+use Rattle.meaning.specs.declared.Refusal.TheVariants.{JournalLong}
+use Rattle.meaning.specs.declared.Stopped.TheVariants.{Unread}
 use Rattle.meaning.specs.Table.{Vectors, form_words, nodes_most, count, count_right, fresh, place}
 use Rattle.meaning.specs.Steps.{after}
-use Rattle.meaning.specs.Journals.{Journal, next_at, journal, after_all, outcome_of, replayed, replay_after, printed, replay_text}
+use Rattle.meaning.specs.Journals.{Next, Outcome, Journal, next_at, journal, after_all, outcome_of, replayed, replay_after, printed, replay_text}
 use Rattle.meaning.proofs.RowLaws.{and_left, and_right}
 use Rattle.meaning.proofs.PlaceLaws.{place_none}
 use Rattle.meaning.proofs.StepLaws.{after-count, fresh-count}
-use Rattle.meaning.proofs.JournalLaws.{refused_numbered}
+use Rattle.meaning.proofs.RefusalLaws.{number_above}
 use Rattle.meaning.proofs.AccountJournals.{begin_right, started}
 use Rattle.text.specs.Text.{Shown, text_most, has_nodes, text_for}
 use Rattle.text.proofs.Lines.{text_values}
@@ -37,10 +37,10 @@ begun_or_bad : (s : List ℕ) → (count_right (journal s).n ≡ true) ⊎ (0 < 
 begun_or_bad s = go (next_at s 0 1) refl
   where
     go : (x : Next) → next_at s 0 1 ≡ x → (count_right (journal s).n ≡ true) ⊎ (0 < (journal s).rest.bad_number)
-    go (BeginAt n next) e = inl (ap (λ (j : Journal). count_right j.n) (begin_is s e) ∙ begin_right true s 0 1 e)
-    go (ActAt x next) e = inr (omega (arith, ap (λ (j : Journal). j.rest.bad_number) (act_is s e)))
-    go (RefusedAt k p) e = inr (omega (arith, ap (λ (j : Journal). j.rest.bad_number) (refused_is s e), refused_numbered true s 0 1 k p e))
-    go End e = inr (omega (arith, ap (λ (j : Journal). j.rest.bad_number) (end_is s e)))
+    go (Ok (Some (BeginAt n next))) e = inl (ap (λ (j : Journal). count_right j.n) (begin_is s e) ∙ begin_right true s 0 1 e)
+    go (Ok (Some (ActAt x next))) e = inr (omega (arith, ap (λ (j : Journal). j.rest.bad_number) (act_is s e)))
+    go (Err f) e = inr (omega (arith, ap (λ (j : Journal). j.rest.bad_number) (refused_is s e), number_above f.refusal))
+    go (Ok None) e = inr (omega (arith, ap (λ (j : Journal). j.rest.bad_number) (end_is s e)))
 
 -- with a start, the replay begins from the fresh table, whatever was lent
 from_fresh : (t s : List ℕ) → count_right (journal s).n ≡ true → replay_after t s ≡ after_all (fresh Vectors (journal s).n) (journal s).rest.steps
@@ -119,12 +119,13 @@ module _ (s t out : List ℕ) where
       record { shown = no_text out (rw (e, f)); table = rw (e, f) }
 
   pub replay_long : {r : ℕ} {out' : List ℕ} → length t ≡ form_words Vectors → text_most ≤ length out → journal_most < length s
-      → Shown out (text_for out (Refused 16) t) r out' → Replayed s t out r t out'
+      → Shown out (text_for out (Err (Unread JournalLong)) t) r out' → Replayed s t out r t out'
   unfolding text_written table_left replay_text printed
   replay_long l room h d =
       let e = eq-eqb (length t) (form_words Vectors) l in
       let f = le-leb text_most (length out) room in
-      let is : text_for out (Refused 16) t ≡ text_written s t out = text_values out (Refused 16) t room refl ∙ rw (e, f, lt-ltb journal_most (length s) h) in
+      let is : text_for out (Err (Unread JournalLong)) t ≡ text_written s t out =
+      text_values out (Err (Unread JournalLong)) t room refl ∙ rw (e, f, lt-ltb journal_most (length s) h) in
       record { shown = as_text is d; table = rw (e, f, lt-leb (length s) journal_most h) }
 
   pub replay_right : {r : ℕ} {t' out' : List ℕ} → length t ≡ form_words Vectors → text_most ≤ length out → length s ≤ journal_most

@@ -1,14 +1,14 @@
 -- What a run of a journal over a lent table answers and leaves, for every list of words. Document 01, "Frames and journals".
-use Rattle.std.specs.Prelude.{◌≡◌, Bool, ◌&&◌, cond, List, [], ◌∷◌, ℕ, zero, suc, length, leb, eqb}
-use Rattle.meaning.specs.declared.Outcome.{Outcome}
-use Rattle.meaning.specs.declared.Outcome.TheVariants.{Refused as Unread}
+use Rattle.std.specs.Prelude.{◌≡◌, Bool, ◌&&◌, cond, List, [], ◌∷◌, ℕ, zero, suc, length, leb, eqb, Err}
+use Rattle.meaning.specs.declared.Refusal.TheVariants.{Unsound}
+use Rattle.meaning.specs.declared.Stopped.TheVariants.{Unread}
 use Rattle.meaning.specs.Table.{Vectors, form_words, fresh}
-use Rattle.meaning.specs.Journals.{Journal, steps_from, after_all, refused_of, outcome_of, replayed, replay_after, printed, replay_text}
+use Rattle.meaning.specs.Journals.{Outcome, Journal, steps_from, after_all, refused_of, outcome_of, replayed, replay_after, printed, replay_text}
 use Rattle.text.specs.Text.{Shown, text_most}
 
 -- A table of the wrong length has no room for a fresh one: refusal 1, of no line and at no place, and no word is changed.
 unfoldable pub run_outcome : List ℕ → List ℕ → Outcome
-run_outcome t s = cond (eqb (length t) (form_words Vectors)) (replayed s) (Unread 1)
+run_outcome t s = cond (eqb (length t) (form_words Vectors)) (replayed s) (Err (Unread Unsound))
 
 unfoldable pub run_after : List ℕ → List ℕ → List ℕ
 run_after t s = cond (eqb (length t) (form_words Vectors)) (replay_after t s) t

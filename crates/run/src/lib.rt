@@ -3,12 +3,15 @@
 #![tactic(auto)]
 
 ghost use Rattle.std.specs.Prelude.{◌≡◌, ◌≤◌, ◌<◌, length, true};
+ghost use Rattle.meaning.specs.declared.Refusal.TheVariants.{StartWrong};
+ghost use Rattle.meaning.specs.declared.Stopped.TheVariants.{Bad};
 ghost use Rattle.meaning.specs.Table.{Vectors, form_words, count_right};
 ghost use Rattle.text.specs.Text.{text_most};
 ghost use Rattle.run.specs.Run.{RanFrom, Ran, RunTold, Replayed};
 
 use layout::TABLE_WORDS;
-use meaning::{Next, Outcome};
+use looks::SoundTable;
+use meaning::{Done, NextLine, Outcome, Refusal, Stopped};
 use text::TEXT_MOST;
 
 // The most bytes of a journal that the program takes.
@@ -19,19 +22,29 @@ fn from_start(s: &[u8], from: usize, n: u32, t: &mut [u32]) -> Outcome
     requires { (length t.old ≡ form_words Vectors) × (count_right n ≡ true) × (0 < from) × (from ≤ length s.now) }
     ensures { RanFrom s.now from n result t.new }
 {
-    table::fresh(t, n);
-    let came = lines::apply_from(s, from, 2, t);
-    if came.number == 0 {
-        return Outcome::Done {
+    let _ = table::fresh(t, n);
+    let mut sound = SoundTable { words: t };
+    let came = lines::apply_from(s, from, 2, &mut sound);
+    match came.fault {
+        None => Ok(Done {
             n,
             steps: came.steps,
             refused: came.refused,
-        };
+        }),
+        Some(fault) => Err(Stopped::Bad {
+            line: came.steps + 2,
+            fault,
+        }),
     }
-    Outcome::Bad {
-        line: came.steps + 2,
-        number: came.number,
-        place: came.place,
+}
+
+// 15: "the first line is no start", place 0
+fn unbegun() -> Stopped
+    ensures { result ≡ Bad 1 (record { refusal = StartWrong; place = 0 }) }
+{
+    Stopped::Bad {
+        line: 1,
+        fault: Refusal::StartWrong.into(),
     }
 }
 
@@ -41,25 +54,15 @@ pub fn run(s: &[u8], t: &mut [u32]) -> Outcome
     ensures { Ran s.now t.old result t.new }
 {
     if t.len() != TABLE_WORDS {
-        return Outcome::Refused { number: 1 };
+        return Err(Stopped::Unread {
+            refusal: Refusal::Unsound,
+        });
     }
     match journal::next_at(s, 0, 1) {
-        Next::Begin { n, next } => from_start(s, next, n as u32, t),
-        Next::Act { step: _, next: _ } => Outcome::Bad {
-            line: 1,
-            number: 15,
-            place: 0,
-        },
-        Next::Refused { number, place } => Outcome::Bad {
-            line: 1,
-            number,
-            place,
-        },
-        Next::End => Outcome::Bad {
-            line: 1,
-            number: 15,
-            place: 0,
-        },
+        Ok(Some(NextLine::Begin { n, next })) => from_start(s, next, n as u32, t),
+        Ok(Some(NextLine::Act { .. })) => Err(unbegun()),
+        Ok(None) => Err(unbegun()),
+        Err(fault) => Err(Stopped::Bad { line: 1, fault }),
     }
 }
 
@@ -83,7 +86,8 @@ pub fn replay(s: &[u8], t: &mut [u32], out: &mut [u8]) -> usize
         return 0;
     }
     if JOURNAL_MOST < s.len() {
-        return text::show(out, Outcome::Refused { number: 16 }, t);
+        let refusal = Refusal::JournalLong;
+        return text::show(out, Err(Stopped::Unread { refusal }), t);
     }
     told(s, t, out)
 }

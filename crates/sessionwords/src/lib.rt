@@ -11,6 +11,7 @@ use numbers::{byte_of, word_of};
 use six::put;
 
 // A session's six words, by the numbers of the digits after its kind; none where the outcome is above 3.
+#[tactic(auto, using(crate::proofs::SessionWordLaws::met))]
 fn put_met(v: &[u8], words: &mut [u32]) -> bool
     requires { Joins v.now 0 12 × (length words.old ≡ 6) }
     ensures { (result ≡ leb (joined_at v.now 20 1) 3) × (words.new ≡ met_words v.now words.old) }
@@ -21,12 +22,14 @@ fn put_met(v: &[u8], words: &mut [u32]) -> bool
     }
     put(
         words,
-        2,
-        byte_of(v, 0) as u32,
-        byte_of(v, 2) as u32,
-        word_of(v, 4),
-        word_of(v, 12),
-        outcome as u32,
+        [
+            2,
+            byte_of(v, 0) as u32,
+            byte_of(v, 2) as u32,
+            word_of(v, 4),
+            word_of(v, 12),
+            outcome as u32,
+        ],
     );
     true
 }
@@ -44,7 +47,7 @@ pub fn put_session(s: &[u8], words: &mut [u32]) -> bool
         return false;
     }
     let mut v = [0u8; 24];
-    if values(&s[2..26], &mut v[..]) != 254 {
+    if values(&s[2..26], &mut v[..]) != Some(254) {
         return false;
     }
     put_met(&v[..], words)

@@ -13,26 +13,27 @@ use Rattle.meaning.specs.Node.{learnt, finished, ended}
 use Rattle.meaning.specs.Steps.{overfull, carried}
 use Rattle.meaning.proofs.TableLaws.{held_log_lem}
 use Rattle.meaning.proofs.PutLaws.{grown_long, grown-part, put_grown}
-use Rattle.openings.specs.Begun.{begun, crowds}
-use Rattle.sides.specs.Ended.{came, grown, rows_put, sided}
+use Rattle.openings.specs.declared.Party.{Party}
+use Rattle.openings.specs.Begun.{begins, begins_whole, begins_shown, shown, crowds, Fits}
+use Rattle.sides.specs.Ended.{came, comes, grown, sided, Merged}
 use Rattle.sides.proofs.KeptLaws.{kept_form, kept_columns}
 
 -- a side's room, in terms of its node
 pub crowd :
-    (t : List ℕ) (p q : ℕ) (s k s' k' : List ℕ) (l : List Record) (had : ℕ) → had ≡ held t p → (f : Bool) →
-    crowds f s had l ≡ overfull f (begun t p s k (node t p).log) (begun t q s' k' l)
+    (t : List ℕ) (mine theirs : Party) → mine.held ≡ held t mine.start.node →
+    crowds t mine theirs ≡ overfull mine.finishes (begins_whole t mine.start) (begins_shown t theirs)
 unfolding finished
-crowd t p q s k s' k' l had e f =
-    let a = length-append (node t p).log (newer s l) in
-    let b = held_log_lem t p in
-    let n : had + length (newer s l) ≡ length ((node t p).log ++ newer s l) = omega arith in
-    ap (λ (i : ℕ). f && ltb log_most i) n
+crowd t mine theirs e =
+    let log : List Record = (node t mine.start.node).log in
+    let new : List Record = newer mine.start.summary.now (shown t theirs) in
+    let a = length-append log new in
+    let b = held_log_lem t mine.start.node in
+    let n : mine.held + length new ≡ length (log ++ new) = omega arith in
+    ap (λ (i : ℕ). mine.finishes && ltb log_most i) n
 
-pub came-carried :
-    (f : Bool) (t : List ℕ) (p q : ℕ) (s k s' k' : List ℕ) (l l' : List Record) →
-    length (came f s l') ≡ carried f (begun t p s k l) (begun t q s' k' l')
-came-carried true t p q s k s' k' l l' = refl
-came-carried false t p q s k s' k' l l' = refl
+pub came-carried : (f : Bool) (x y : Node) → length (came f x.summary y.log) ≡ carried f x y
+came-carried true x y = refl
+came-carried false x y = refl
 
 -- the log of a side is what it had and what came
 came_log : (f : Bool) (p : ℕ) (x y : Node) → (ended f p x y).log ≡ x.log ++ came f x.summary y.log
@@ -64,22 +65,31 @@ module _ (t : List ℕ) (sd : Sound t) (p : ℕ) (h : p < count t) (rs : List Re
 
 -- a side done in two steps, records and then rows, is its node put
 pub side_put :
-    (t : List ℕ) (sd : Sound t) (p q : ℕ) → p < count t → q < count t → (f : Bool) (s k s' k' : List ℕ) (l : List Record) (u v : List ℕ) →
-    held t p + length (came f s l) ≤ log_most → u ≡ grown p (came f s l) t → v ≡ rows_put f p (begun u p s k []) (begun u q s' k' []) u →
-    v ≡ sided f p (begun t p s k (node t p).log) (begun t q s' k' l) t
-side_put t sd p q h h' f s k s' k' l u v fits eu ev =
-    let long = taken_long t sd p h (came f s l) fits u eu in
-    let same = taken_rows t sd p h (came f s l) fits u eu in
+    (t : List ℕ) (sd : Sound t) (mine theirs : Party) → Fits t mine.start → Fits t theirs.start → (u v : List ℕ) →
+    held t mine.start.node + length (comes t mine theirs) ≤ log_most → u ≡ grown mine.start.node (comes t mine theirs) t →
+    Merged mine.finishes u mine.start theirs.start v →
+    v ≡ sided mine.finishes mine.start.node (begins_whole t mine.start) (begins_shown t theirs) t
+side_put t sd mine theirs here there u v fits eu ev =
+    let f = mine.finishes in
+    let p = mine.start.node in
+    let q = theirs.start.node in
+    let s = mine.start.summary.now in
+    let k = mine.start.acks.now in
+    let s' = theirs.start.summary.now in
+    let k' = theirs.start.acks.now in
+    let new = comes t mine theirs in
+    let long = taken_long t sd p here.here new fits u eu in
+    let same = taken_rows t sd p here.here new fits u eu in
     let fm = kept_form t u long same in
-    let cp = kept_columns t u long same p sd.high h in
-    let cq = kept_columns t u long same q sd.high h' in
-    let x = begun t p s k (node t p).log in
-    let y = begun t q s' k' l in
-    let rows : row_pieces (form_of u) p (ended f p (begun u p s k []) (begun u q s' k' [])) ≡ row_pieces (form_of t) p (ended f p x y) =
+    let cp = kept_columns t u long same p sd.high here.here in
+    let cq = kept_columns t u long same q sd.high there.here in
+    let x = begins_whole t mine.start in
+    let y = begins_shown t theirs in
+    let rows : row_pieces (form_of u) p (ended f p (begins u mine.start []) (begins u theirs.start [])) ≡ row_pieces (form_of t) p (ended f p x y) =
     (λ i.
     row_pieces (fm i) p
     (ended f p (record { summary = s; acks = k; columns = set (cp i) p s; log = [] })
     (record { summary = s'; acks = k'; columns = set (cq i) q s'; log = [] }))) ∙
-    rows_alone (form_of t) f p s k s' k' (set (node t p).columns p s) (set (node t q).columns q s') (node t p).log l
+    rows_alone (form_of t) f p s k s' k' (set (node t p).columns p s) (set (node t q).columns q s') (node t p).log (shown t theirs)
     in
-    ev ∙ (λ i. lay (rows i) (eu i)) ∙ sym (put_grown t sd p h (came f s l) fits (ended f p x y) (came_log f p x y))
+    ev ∙ (λ i. lay (rows i) (eu i)) ∙ sym (put_grown t sd p here.here new fits (ended f p x y) (came_log f p x y))

@@ -2,27 +2,12 @@
 use Rattle.std.specs.Prelude.{◌≡◌, Bool, true, false, List, [], ◌∷◌, ℕ, ◌+◌, ◌*◌, ◌≤◌, ◌<◌, length}
 use Rattle.meaning.specs.declared.Record.{Record}
 use Rattle.meaning.specs.Rows.{newer, words}
-use Rattle.meaning.specs.Table.{
-  form_of,
-  form_words,
-  Node,
-  nodes_most,
-  log_most,
-  acks_wide,
-  held_at,
-  log_at,
-  row_pieces,
-  lay,
-  place,
-  count,
-  held,
-  node,
-  put_node,
-  Sound,
-}
+use Rattle.meaning.specs.Table.{form_of, form_words, Node, nodes_most, log_most, held_at, log_at, row_pieces, lay, place, count, held, put_node, Sound}
 use Rattle.meaning.specs.Node.{ended}
-use Rattle.meaning.specs.Steps.{overfull, carried, on_columns}
-use Rattle.openings.specs.Begun.{begun, crowds, held_log, OwnOnly}
+use Rattle.meaning.specs.Steps.{overfull, carried}
+use Rattle.openings.specs.declared.Start.{Start}
+use Rattle.openings.specs.declared.Party.{Party}
+use Rattle.openings.specs.Begun.{begins, begins_whole, begins_shown, shown, crowds, Fits, Opens}
 
 -- what of a log a side takes, comparing with a row: the newer records if it finishes
 abbrev pub came : Bool → List ℕ → List Record → List Record
@@ -42,62 +27,61 @@ rows_put finishes p x y t = lay (row_pieces (form_of t) p (ended finishes p x y)
 abbrev pub sided : Bool → ℕ → Node → Node → List ℕ → List ℕ
 sided finishes p x y t = put_node p (ended finishes p x y) t
 
--- Two nodes of a sound table, a row with an entry for each node, how many records p has, how many of q's it is shown, and room for what comes
-pub record Takes (t : List ℕ) (f : Bool) (p q : ℕ) (known : List ℕ) (had shown : ℕ) : Type 0 where
+-- what a side takes of what it is shown
+abbrev pub comes : List ℕ → Party → Party → List Record
+comes t mine theirs = came mine.finishes mine.start.summary.now (shown t theirs)
+
+-- Two nodes of a sound table, a row with an entry for each node, how many records the side has, how many of its partner's it is shown, and room for
+-- what comes
+pub record Takes (t : List ℕ) (mine theirs : Party) : Type 0 where
   pub is_sound : Sound t
-  pub here : p < count t
-  pub there : q < count t
-  pub apart : p ≡ q → ⊥
-  pub long : length known ≡ count t
-  pub mine : had ≡ held t p
-  pub theirs : shown ≤ held t q
-  pub room : crowds f known had (held_log t q shown) ≡ false
+  pub here : mine.start.node < count t
+  pub there : theirs.start.node < count t
+  pub apart : mine.start.node ≡ theirs.start.node → ⊥
+  pub long : length mine.start.summary.now ≡ count t
+  pub mine_held : mine.held ≡ held t mine.start.node
+  pub theirs_held : theirs.held ≤ held t theirs.start.node
+  pub room : crowds t mine theirs ≡ false
 
--- How many records p then has, and the words at exit
-pub record Took (t : List ℕ) (f : Bool) (p q : ℕ) (known : List ℕ) (had shown r : ℕ) (u : List ℕ) : Type 0 where
-  pub total : r ≡ had + length (came f known (held_log t q shown))
+-- How many records the side then has, and the words at exit
+pub record Took (t : List ℕ) (mine theirs : Party) (r : ℕ) (u : List ℕ) : Type 0 where
+  pub total : r ≡ mine.held + length (comes t mine theirs)
   pub most : r ≤ log_most
-  pub leaves : u ≡ grown p (came f known (held_log t q shown)) t
+  pub leaves : u ≡ grown mine.start.node (comes t mine theirs) t
 
--- A node of a table of a right length, whether it has columns, and the starting rows, which are the table's but for its own entries
-pub record Settles (t : List ℕ) (c : Bool) (p : ℕ) (sp kp : List ℕ) : Type 0 where
+-- A node of a table of a right length, and the starting rows, which are the table's but for its own entries
+pub record Settles (t : List ℕ) (x : Start) : Type 0 where
   pub long : length t ≡ form_words (form_of t)
   pub high : count t ≤ nodes_most
-  pub here : p < count t
-  pub told : c ≡ on_columns (form_of t)
-  pub long_p : (length sp ≡ count t) × (length kp ≡ acks_wide (form_of t) (count t))
-  pub opens : OwnOnly t p sp kp
+  pub fits : Fits t x
+  pub opens : Opens t x
 
 -- The same with another node, its partner, and the starting rows of that one
-pub record Merges (t : List ℕ) (c : Bool) (p q : ℕ) (sp kp sq kq : List ℕ) : Type 0 where
-  pub mine : Settles t c p sp kp
-  pub there : q < count t
-  pub apart : p ≡ q → ⊥
-  pub long_q : (length sq ≡ count t) × (length kq ≡ acks_wide (form_of t) (count t))
+pub record Merges (t : List ℕ) (mine theirs : Start) : Type 0 where
+  pub settles : Settles t mine
+  pub fits : Fits t theirs
+  pub apart : mine.node ≡ theirs.node → ⊥
 
 -- the words with the starting rows of a side that does not finish, and the words at exit of either
-abbrev pub settled : List ℕ → ℕ → List ℕ → List ℕ → List ℕ
-settled t p sp kp = lay (row_pieces (form_of t) p (begun t p sp kp [])) t
+abbrev pub settled : List ℕ → Start → List ℕ
+settled t x = lay (row_pieces (form_of t) x.node (begins t x [])) t
 
-abbrev pub Merged : Bool → List ℕ → ℕ → ℕ → List ℕ → List ℕ → List ℕ → List ℕ → List ℕ → Type 0
-Merged f t p q sp kp sq kq u = u ≡ rows_put f p (begun t p sp kp []) (begun t q sq kq []) t
+abbrev pub Merged : Bool → List ℕ → Start → Start → List ℕ → Type 0
+Merged f t mine theirs u = u ≡ rows_put f mine.node (begins t mine []) (begins t theirs []) t
 
--- Side p of a session with q: as for `Takes`, with all four starting rows, p's the table's but for its own entries
-pub record Sides (t : List ℕ) (c f : Bool) (p q : ℕ) (sp kp sq kq : List ℕ) (had shown : ℕ) : Type 0 where
+-- A side of a session: as for `Takes`, with the starting rows of both, its own the table's but for its own entries
+pub record Sides (t : List ℕ) (mine theirs : Party) : Type 0 where
   pub is_sound : Sound t
-  pub here : p < count t
-  pub there : q < count t
-  pub apart : p ≡ q → ⊥
-  pub told : c ≡ on_columns (form_of t)
-  pub long_p : (length sp ≡ count t) × (length kp ≡ acks_wide (form_of t) (count t))
-  pub long_q : (length sq ≡ count t) × (length kq ≡ acks_wide (form_of t) (count t))
-  pub opens : OwnOnly t p sp kp
-  pub mine : had ≡ held t p
-  pub theirs : shown ≤ held t q
-  pub room : overfull f (begun t p sp kp (node t p).log) (begun t q sq kq (held_log t q shown)) ≡ false
+  pub fits : Fits t mine.start
+  pub theirs_fits : Fits t theirs.start
+  pub apart : mine.start.node ≡ theirs.start.node → ⊥
+  pub opens : Opens t mine.start
+  pub mine_held : mine.held ≡ held t mine.start.node
+  pub theirs_held : theirs.held ≤ held t theirs.start.node
+  pub room : overfull mine.finishes (begins_whole t mine.start) (begins_shown t theirs) ≡ false
 
--- How many records p then has, and the words at exit
-pub record Sided (t : List ℕ) (f : Bool) (p q : ℕ) (sp kp sq kq : List ℕ) (had shown r : ℕ) (u : List ℕ) : Type 0 where
-  pub total : r ≡ had + carried f (begun t p sp kp (node t p).log) (begun t q sq kq (held_log t q shown))
+-- How many records the side then has, and the words at exit
+pub record Sided (t : List ℕ) (mine theirs : Party) (r : ℕ) (u : List ℕ) : Type 0 where
+  pub total : r ≡ mine.held + carried mine.finishes (begins_whole t mine.start) (begins_shown t theirs)
   pub most : r ≤ log_most
-  pub leaves : u ≡ sided f p (begun t p sp kp (node t p).log) (begun t q sq kq (held_log t q shown)) t
+  pub leaves : u ≡ sided mine.finishes mine.start.node (begins_whole t mine.start) (begins_shown t theirs) t

@@ -2,24 +2,21 @@
 // them. Nothing is written for a line that is refused. A session's are `sessionwords`'. Inner functions: what they require, `words` shows.
 #![tactic(auto)]
 
-ghost use Rattle.std.specs.Prelude.{◌≡◌, [], ◌∷◌, length};
+ghost use Rattle.std.specs.Prelude.{◌≡◌, length};
 ghost use Rattle.numbers.specs.Numbers.{Joins};
 ghost use Rattle.six.specs.Six.{write_words, Puts};
 
 use digits::values;
 use numbers::{byte_of, word_of};
 
-// The six words.
-pub fn put(words: &mut [u32], kind: u32, a: u32, b: u32, c: u32, d: u32, e: u32)
+// The six words, each stored by itself: `copy_from_slice` takes the array through memory, and a write's line read in one call then took 64 cycles for 48.
+pub fn put(words: &mut [u32], values: [u32; 6])
     requires { length words.old ≡ 6 }
-    ensures { words.new ≡ kind ∷ a ∷ b ∷ c ∷ d ∷ e ∷ [] }
+    ensures { words.new ≡ values }
 {
-    words[0] = kind;
-    words[1] = a;
-    words[2] = b;
-    words[3] = c;
-    words[4] = d;
-    words[5] = e;
+    for (k, &value) in values.iter().enumerate() {
+        words[k] = value;
+    }
 }
 
 // A write's six words, by its digits' numbers.
@@ -29,12 +26,14 @@ fn put_written(v: &[u8], words: &mut [u32])
 {
     put(
         words,
-        1,
-        byte_of(v, 2) as u32,
-        word_of(v, 4),
-        word_of(v, 12),
-        byte_of(v, 20) as u32,
-        0,
+        [
+            1,
+            byte_of(v, 2) as u32,
+            word_of(v, 4),
+            word_of(v, 12),
+            byte_of(v, 20) as u32,
+            0,
+        ],
     );
 }
 
@@ -51,7 +50,7 @@ pub fn put_write(s: &[u8], words: &mut [u32]) -> bool
         return false;
     }
     let mut v = [0u8; 24];
-    if values(s, &mut v[..]) != 0 {
+    if values(s, &mut v[..]) != Some(0) {
         return false;
     }
     put_written(&v[..], words);

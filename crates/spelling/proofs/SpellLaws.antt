@@ -6,20 +6,10 @@ use native.Mathlib.Omega.{arith}
 use native.Mathlib.Numerals.{add-one}
 use lib.ListN.{length, get_or, set, take}
 use lib.Seq.{length-take-le, take-suc, take_all}
-use borrow.Author.Tests.{lt-ltb, le-ltb}
 use Rattle.meaning.specs.Table.{place}
 use Rattle.meaning.specs.Frames.{digit, spelled}
 use Rattle.meaning.proofs.PlaceLaws.{length-place, place-append, set-place, place_none, place-all}
 use Rattle.meaning.proofs.FrameLaws.{spelled-append, length-spelled}
-
--- a digit
-pub digit_low : (v : ℕ) → v ≤ 9 → 48 + v ≡ digit v
-unfolding digit
-digit_low v h = cc (lt-ltb v 10 (omega arith))
-
-pub digit_high : (v : ℕ) → 9 < v → 55 + v ≡ digit v
-unfolding digit
-digit_high v h = cc (le-ltb v 10 h)
 
 -- one more entry after those that were put
 pub set_next : (t₀ t xs : List ℕ) (at next v : ℕ) → next ≡ at + length xs → next < length t₀ → t ≡ place at xs t₀ → set t next v ≡ place at (xs ++ (v ∷ [])) t₀

@@ -4,84 +4,101 @@
 #![tactic(auto)]
 
 ghost use Rattle.std.specs.Prelude.{◌≡◌, length, get_or};
-ghost use Rattle.meaning.specs.Table.{Sound};
 ghost use Rattle.meaning.specs.Frames.{read_line};
-ghost use Rattle.steplines.specs.StepLines.{refused_by, Turned, Begins};
+ghost use Rattle.heads.specs.Heads.{short_of};
+ghost use Rattle.steplines.specs.StepLines.{turn_of, Turned, Begins};
+ghost use Rattle.looks.specs.Words.{SameWords};
 
 use digits::values;
-use heads::{NO_LINE, short_line};
+use heads::{Short, short_line};
+use looks::SoundTable;
 use meaning::Reply;
 use numbers::{byte_of, word_of};
 
-// What is told of a line that is no step.
-pub const UNSURE: usize = 2;
+// What a turn makes of a line: its step is done, its step is refused, or it is not told to be a step.
+#[derive(Clone, Copy, PartialEq, Eq)]
+pub enum Turn {
+    Done,
+    Refused,
+    Unsure,
+}
 
-// 1 for a refused step
-pub fn count(r: Reply) -> usize
-    ensures { result ≡ refused_by r }
-{
-    match r {
-        Reply::Written => 0,
-        Reply::Carried { a: _, b: _ } => 0,
-        Reply::Purged { .. } => 0,
-        Reply::Delivered { .. } => 0,
-        Reply::Refused { number: _ } => 1,
+impl From<Reply> for Turn {
+    ghost from_gives = { λ r told. told ≡ turn_of r };
+
+    fn from(reply: Reply) -> Turn {
+        match reply {
+            Ok(_) => Turn::Done,
+            Err(_) => Turn::Refused,
+        }
     }
 }
 
 // The step of a write's 24 characters.
-pub fn write_line(s: &[u8], t: &mut [u32]) -> usize
-    requires { Sound t.old × Begins s.now 24 49 }
-    ensures { Turned t.old (read_line 1 s.now) result t.new }
+pub fn write_line(s: &[u8], t: &mut SoundTable) -> Turn
+    requires { Begins s.now 24 49 }
+    ensures turned { Turned t.old.words.now (read_line 1 s.now) result t.new.words.now }
+    ensures same { SameWords t.old t.new }
 {
     let mut v = [0u8; 24];
-    if values(s, &mut v[..]) != 0 {
-        return UNSURE;
+    if values(s, &mut v[..]) != Some(0) {
+        return Turn::Unsure;
     }
-    let r = writes::write(
+    let reply = writes::write(
         t,
         byte_of(&v[..], 2),
         word_of(&v[..], 4),
         word_of(&v[..], 12),
         byte_of(&v[..], 20),
     );
-    count(r)
+    Turn::from(reply)
+}
+
+// The six characters of a start, a purge or a delivery; none where they are no line.
+fn short_at(s: &[u8]) -> Option<Short>
+    requires { length s.now ≡ 6 }
+    ensures { result ≡ short_of s.now }
+{
+    short_line(s[0], s[1], s[2], s[3], s[4], s[5])
 }
 
 // The step of a purge's six characters. Which node lags is asked by nobody here.
-fn purge_line(s: &[u8], t: &mut [u32]) -> usize
-    requires { Sound t.old × (length s.now ≡ 6) × (get_or s.now 1 0 ≡ 51) }
-    ensures { Turned t.old (read_line 1 s.now) result t.new }
+fn purge_line(s: &[u8], t: &mut SoundTable) -> Turn
+    requires { (length s.now ≡ 6) × (get_or s.now 1 0 ≡ 51) }
+    ensures turned { Turned t.old.words.now (read_line 1 s.now) result t.new.words.now }
+    ensures same { SameWords t.old t.new }
 {
-    let x = short_line(s[0], s[1], s[2], s[3], s[4], s[5]);
-    if NO_LINE <= x {
-        return UNSURE;
+    let Some(purge) = short_at(s) else {
+        return Turn::Unsure;
+    };
+    match purges::purge_alone(t, purge.field) {
+        Ok(()) => Turn::Done,
+        Err(_) => Turn::Refused,
     }
-    purges::purge_alone(t, (x % 256) as u8)
 }
 
 // The step of a delivery's six characters.
-fn deliver_line(s: &[u8], t: &mut [u32]) -> usize
-    requires { Sound t.old × (length s.now ≡ 6) × (get_or s.now 1 0 ≡ 53) }
-    ensures { Turned t.old (read_line 1 s.now) result t.new }
+fn deliver_line(s: &[u8], t: &mut SoundTable) -> Turn
+    requires { (length s.now ≡ 6) × (get_or s.now 1 0 ≡ 53) }
+    ensures turned { Turned t.old.words.now (read_line 1 s.now) result t.new.words.now }
+    ensures same { SameWords t.old t.new }
 {
-    let line = short_line(s[0], s[1], s[2], s[3], s[4], s[5]);
-    if NO_LINE <= line {
-        return UNSURE;
-    }
-    let r = deliveries::deliver_alone(t, (line % 256) as u8);
-    count(r)
+    let Some(delivery) = short_at(s) else {
+        return Turn::Unsure;
+    };
+    Turn::from(deliveries::deliver_alone(t, delivery.field))
 }
 
 // The step of six characters, a purge's or a delivery's: the kind's second character tells them apart before a digit is read, so that each is read
 // as if it were the only one. A start is none.
-pub fn short_step(s: &[u8], t: &mut [u32]) -> usize
-    requires { Sound t.old × (length s.now ≡ 6) }
-    ensures { Turned t.old (read_line 1 s.now) result t.new }
+pub fn short_step(s: &[u8], t: &mut SoundTable) -> Turn
+    requires { length s.now ≡ 6 }
+    ensures turned { Turned t.old.words.now (read_line 1 s.now) result t.new.words.now }
+    ensures same { SameWords t.old t.new }
 {
     match s[1] {
         b'3' => purge_line(s, t),
         b'5' => deliver_line(s, t),
-        _ => UNSURE,
+        _ => Turn::Unsure,
     }
 }

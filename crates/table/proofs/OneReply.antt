@@ -1,8 +1,10 @@
 -- Two replies that a public contract of this crate allows are equal: what is answered, and every word of the table at exit.
 use mathlib.Core.Path.{◌≡◌, sym, ap₂, ◌∙◌}
-use mathlib.Core.List.{List, ◌∷◌}
+use mathlib.Core.List.{List}
 use Prim.Native.Nat.{ℕ}
-use Rattle.meaning.specs.declared.Reply.{Reply}
+use Rattle.std.specs.Prelude.{Result}
+use Rattle.meaning.specs.declared.Refusal.{Refusal}
+use Rattle.meaning.specs.Steps.{Reply}
 use Rattle.meaning.proofs.OneReply.{OneReply}
 use Rattle.table.proofs.fresh.Kinds as fresh_kinds
 use Rattle.table.proofs.fresh.Reads as fresh
@@ -25,11 +27,11 @@ use Rattle.table.proofs.apply_sound.Reads as apply_sound
 abbrev Applied : Type 0
 Applied = Reply × List ℕ
 
-same : {x y r : Reply} {u v w : List ℕ} → (x ≡ r) × (u ≡ w) → (y ≡ r) × (v ≡ w) → ◌≡◌ {A = Applied} (x, u) (y, v)
-same p q = ap₂ (λ (x : Reply) (u : List ℕ). (x, u)) (p.0 ∙ sym q.0) (p.1 ∙ sym q.1)
+same : {A : Type 0} {x y r : A} {u v w : List ℕ} → (x ≡ r) × (u ≡ w) → (y ≡ r) × (v ≡ w) → ◌≡◌ {A = A × List ℕ} (x, u) (y, v)
+same p q = ap₂ (λ x u. (x, u)) (p.0 ∙ sym q.0) (p.1 ∙ sym q.1)
 
-pub one_fresh : OneReply 1 fresh_kinds.ps fresh_kinds.r fresh.Post (λ κs x s. x ∷ s.0.now)
-one_fresh κs a x y s s' p q = ap₂ ◌∷◌ (p.0 ∙ sym q.0) (p.1 ∙ sym q.1)
+pub one_fresh : OneReply 1 fresh_kinds.ps fresh_kinds.r fresh.Post {R = Result Unit Refusal × List ℕ} (λ κs x s. (x, s.0.now))
+one_fresh κs a x y s s' p q = same p q
 
 pub one_step : OneReply 1 apply_kinds.ps apply_kinds.r apply.Post {R = Applied} (λ κs x s. (x, s.0.now))
 one_step κs a x y s s' p q = same p q
@@ -51,5 +53,5 @@ one_deliver κs a x y s s' p q =
 pub one_deliver_alone : OneReply 1 deliver_alone_kinds.ps deliver_alone_kinds.r deliver_alone.Post {R = Applied} (λ κs x s. (x, s.0.now))
 one_deliver_alone κs a x y s s' p q = same p q
 
-pub one_sound_step : OneReply 1 apply_sound_kinds.ps apply_sound_kinds.r apply_sound.Post {R = Applied} (λ κs x s. (x, s.0.now))
-one_sound_step κs a x y s s' p q = same p q
+pub one_sound_step : OneReply 2 apply_sound_kinds.ps apply_sound_kinds.r apply_sound.Post {R = Applied} (λ κs x s. (x, s.0.now.words.now))
+one_sound_step κs a x y s s' p q = same p.0 q.0

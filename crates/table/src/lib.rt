@@ -1,39 +1,50 @@
-// The lent table: a fresh one, and one step applied. Document 01, "The table" and "The three actions".
+// The lent table: a fresh one, and one step applied.
 // The entry points, `fresh`, `apply` and those of `act`, take any words at all; what the crates below them require, they have shown.
 #![tactic(auto)]
 
-ghost use Rattle.std.specs.Prelude.{◌≡◌};
-ghost use Rattle.meaning.specs.Table.{fresh_refusal, made_fresh, Sound};
+ghost use Rattle.std.specs.Prelude.{◌≡◌, true, false, OnOk, IfErr};
+ghost use Rattle.meaning.specs.declared.Refusal.TheVariants.{Unsound};
+ghost use Rattle.meaning.specs.Refusals.{answered};
+ghost use Rattle.meaning.specs.Table.{fresh_refusal, made_fresh, sound};
 ghost use Rattle.looks.specs.Applied.{Applied};
+ghost use Rattle.looks.specs.Words.{SameWords};
 
-use meaning::{Action, Reply, Step};
+use looks::SoundTable;
+use meaning::{Action, Refusal, Reply, Step};
 use rows::{clear, put_word};
 
 pub mod act;
 
 // "A fresh table has its count set and every other word zero. Making one is refused with 1, the lent words unchanged, if the count or the
 // length is wrong." The length lent tells the form.
-pub fn fresh(t: &mut [u32], n: u32) -> u32
-    ensures { (result ≡ fresh_refusal t.old n) × (t.new ≡ made_fresh t.old n) }
+pub fn fresh(t: &mut [u32], n: u32) -> Result<(), Refusal>
+    ensures { (result ≡ answered (fresh_refusal t.old n) tt) × (t.new ≡ made_fresh t.old n) }
 {
-    if n < 2 {
-        return 1;
-    }
-    if 16 < n {
-        return 1;
-    }
-    if !layout::is_long(t) {
-        return 1;
+    if !(2..=16).contains(&n) || !layout::is_long(t) {
+        return Err(Refusal::Unsound);
     }
     clear(t);
     put_word(t, layout::COUNT_AT, n);
-    0
+    Ok(())
+}
+
+// 1: "the table is not sound".
+#[inline]
+fn scanned(t: &[u32]) -> Result<(), Refusal>
+    ensures is_sound { OnOk result (sound t.now ≡ true) }
+    ensures unsound { IfErr result (λ r. (r ≡ Unsound) × (sound t.now ≡ false)) }
+{
+    if soundness::is_sound(t) {
+        Ok(())
+    } else {
+        Err(Refusal::Unsound)
+    }
 }
 
 // One action on a table that is known to be sound: what `apply` does after its scan, and what a run from a fresh table does at every step.
-pub fn apply_sound(t: &mut [u32], action: Action) -> Reply
-    requires { Sound t.old }
-    ensures { Applied t.old action result t.new }
+pub fn apply_sound(t: &mut SoundTable, action: Action) -> Reply
+    ensures done { Applied t.old.words.now action result t.new.words.now }
+    ensures same { SameWords t.old t.new }
 {
     match action {
         Action::Write {
@@ -54,13 +65,10 @@ pub fn apply_sound(t: &mut [u32], action: Action) -> Reply
     }
 }
 
-// One step on any words at all: the refusal number, or what the step reports; a refusal changes no word.
+// One step on any words at all: the refusal, or what the step reports; a refusal changes no word.
 pub fn apply(t: &mut [u32], step: Step) -> Reply
     ensures { Applied t.old step.action result t.new }
 {
-    if !soundness::is_sound(t) {
-        return Reply::Refused { number: 1 };
-    }
-    let action = step.action;
-    apply_sound(t, action)
+    scanned(t)?;
+    apply_sound(&mut SoundTable { words: t }, step.action)
 }

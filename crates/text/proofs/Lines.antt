@@ -6,19 +6,22 @@ use Prim.Native.Nat.{ℕ, ◌≤◌, ◌<◌}
 use native.Mathlib.Omega.{arith}
 use borrow.Author.Tests.{le-leb, lt-leb}
 use lib.ListN.{length}
-use Rattle.meaning.specs.declared.Outcome.{Outcome}
-use Rattle.meaning.specs.declared.Outcome.TheVariants.{Bad, Refused, Done}
-use Rattle.meaning.specs.Journals.{outcome_values, printed}
+use Rattle.std.specs.Prelude.{Ok, Err}
+use Rattle.meaning.specs.declared.Fault.{Fault}
+use Rattle.meaning.specs.declared.Refusal.{Refusal}
+use Rattle.meaning.specs.declared.Stopped.TheVariants.{Bad, Unread}
+use Rattle.meaning.specs.Refusals.{number_of}
+use Rattle.meaning.specs.Journals.{Outcome, outcome_values, printed}
 use Rattle.printing.specs.Wrote.{Wrote}
 use Rattle.textlines.specs.TextLines.{bad_line, unread_line}
 use Rattle.text.specs.Text.{Shown, printed_of, text_most, has_nodes, text_for}
 
--- what is written is what document 01 prints: an outcome's text goes by its values
+-- what is written is what the program prints: an outcome's text goes by its values
 pub printed_values : (x : Outcome) (t : List ℕ) → printed x t ≡ printed_of (outcome_values x) t
 unfolding printed
-printed_values (Bad line k p) t = refl
-printed_values (Refused k) t = refl
-printed_values (Done n steps refused) t = simp append_assoc
+printed_values (Err (Bad line f)) t = refl
+printed_values (Err (Unread r)) t = refl
+printed_values (Ok x) t = simp append_assoc
 
 pub text_values : (out : List ℕ) (x : Outcome) (t : List ℕ) → text_most ≤ length out → has_nodes x t ≡ true → text_for out x t ≡ printed x t
 unfolding text_for
@@ -37,11 +40,12 @@ pub text_whole : (out : List ℕ) (x : Outcome) (t : List ℕ) → text_most ≤
 unfolding text_for
 text_whole out x t h e = rw (le-leb text_most (length out) h, e)
 
-pub text_bad : (out : List ℕ) (line k p : ℕ) (t : List ℕ) → text_most ≤ length out → bad_line line k p ≡ text_for out (Bad line k p) t
-text_bad out line k p t h = text_whole out (Bad line k p) t h refl
+pub text_bad : (out : List ℕ) (line : ℕ) (f : Fault) (t : List ℕ) → text_most ≤ length out
+    → bad_line line (number_of f.refusal) f.place ≡ text_for out (Err (Bad line f)) t
+text_bad out line f t h = text_whole out (Err (Bad line f)) t h refl
 
-pub text_unread : (out : List ℕ) (k : ℕ) (t : List ℕ) → text_most ≤ length out → unread_line k ≡ text_for out (Refused k) t
-text_unread out k t h = text_whole out (Refused k) t h refl
+pub text_unread : (out : List ℕ) (r : Refusal) (t : List ℕ) → text_most ≤ length out → unread_line (number_of r) ≡ text_for out (Err (Unread r)) t
+text_unread out r t h = text_whole out (Err (Unread r)) t h refl
 
 -- a text written from place 0 is the whole answer
 pub whole : {t t' : List ℕ} {r : ℕ} {text : List ℕ} {most : ℕ} → most ≤ length t → most ≤ text_most → Wrote t 0 text most r t'

@@ -1,9 +1,7 @@
--- A replay's text by its lines, and what is written of it into a lent buffer. Document 01, "Frames and journals": what the replay prints.
-use Rattle.std.specs.Prelude.{◌≡◌, Bool, true, ◌&&◌, cond, List, [], ◌++◌, ℕ, ◌≤◌, length, get_or, leb, eqb}
-use Rattle.meaning.specs.declared.Outcome.{Outcome}
-use Rattle.meaning.specs.declared.Outcome.TheVariants.{Bad, Refused, Done}
+-- A replay's text by its lines, and what is written of it into a lent buffer.
+use Rattle.std.specs.Prelude.{◌≡◌, Bool, true, ◌&&◌, cond, List, [], ◌++◌, ℕ, ◌≤◌, length, get_or, leb, eqb, Ok, Err}
 use Rattle.meaning.specs.Table.{Vectors, form_words, nodes_most, count, place}
-use Rattle.meaning.specs.Journals.{outcome_values, node_lines}
+use Rattle.meaning.specs.Journals.{Outcome, outcome_values, node_lines}
 use Rattle.textlines.specs.TextLines.{bad_line, unread_line, first_line}
 
 -- The text of an outcome by its values: no line and a number; a refused line, its number and place; or after two zeros the three counts, and then
@@ -20,9 +18,8 @@ text_most = 12288
 
 -- The table has the words that are printed. The text of a refusal asks for none.
 abbrev pub has_nodes : Outcome → List ℕ → Bool
-has_nodes (Bad line k p) t = true
-has_nodes (Refused k) t = true
-has_nodes (Done n steps refused) t = eqb (length t) (form_words Vectors) && (leb (count t) nodes_most && leb n nodes_most)
+has_nodes (Ok x) t = eqb (length t) (form_words Vectors) && (leb (count t) nodes_most && leb x.n nodes_most)
+has_nodes (Err x) t = true
 
 -- A text was written from place 0 of the buffer out, which is then out'; r is its length, for which there is room.
 pub record Shown (out text : List ℕ) (r : ℕ) (out' : List ℕ) : Type 0 where

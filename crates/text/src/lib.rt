@@ -1,45 +1,51 @@
 // The printed text of a replay, written into a lent buffer: its first line, of the crate `textlines`, and the nodes' lines, of `nodelines`.
-// Document 01, "Frames and journals". Each inner function answers the place after what it wrote.
 #![tactic(auto)]
 
-ghost use Rattle.std.specs.Prelude.{◌++◌, ◌≤◌, length};
+ghost use Rattle.std.specs.Prelude.{◌++◌, ◌≤◌, Ok};
 ghost use Rattle.meaning.specs.Table.{nodes_most};
 ghost use Rattle.meaning.specs.Journals.{node_lines};
-ghost use Rattle.printing.specs.Wrote.{Wrote};
+ghost use Rattle.printing.specs.Printed.{Printed, Room};
 ghost use Rattle.textlines.specs.TextLines.{first_line};
-ghost use Rattle.nodeparts.specs.Nodes.{Nodes};
 ghost use Rattle.text.specs.Text.{Shown, text_most, text_for};
 
 use layout::{COUNT_AT, NODES_MOST, TABLE_WORDS};
-use meaning::Outcome;
+use meaning::{Done, Outcome, Stopped};
+use nodeparts::VectorTable;
+use printing::Printer;
 
 // Room for the text of every outcome.
 pub const TEXT_MOST: usize = 12288;
 
 // The text of a replay that came to its end: its first line and the nodes' lines.
-fn all_lines(out: &mut [u8], n: u32, steps: usize, refused: usize, t: &[u32]) -> usize
-    requires { Nodes t.now × (n ≤ nodes_most) × (text_most ≤ length out.old) }
-    ensures { Wrote out.old 0 (first_line n steps refused ++ node_lines n t.now) text_most result out.new }
+fn all_lines(printer: &mut Printer, done: Done, table: &VectorTable)
+    requires { (done.n ≤ nodes_most) × Room printer.old text_most }
+    ensures { Printed printer.old (first_line done.n done.steps done.refused ++ node_lines done.n table.now.words.now) text_most printer.new }
 {
-    let a = textlines::first_line(out, n, steps, refused);
-    nodelines::node_lines(out, a, n as usize, t)
+    textlines::first_line(printer, done);
+    nodelines::node_lines(printer, done.n as usize, table);
 }
 
 // The text of a replay that came to its end, or nothing where the table has not the words.
-fn done_text(out: &mut [u8], n: u32, steps: usize, refused: usize, t: &[u32]) -> usize
-    requires { text_most ≤ length out.old }
-    ensures { Wrote out.old 0 (text_for out.old (Outcome.Done n steps refused) t.now) text_most result out.new }
+fn done_text(printer: &mut Printer, done: Done, t: &[u32])
+    requires { Room printer.old text_most }
+    ensures { Printed printer.old (text_for printer.old.out.now (Ok done) t.now) text_most printer.new }
 {
-    if t.len() != TABLE_WORDS {
-        return 0;
+    let most = NODES_MOST as u32;
+    if t.len() == TABLE_WORDS && t[COUNT_AT] <= most && done.n <= most {
+        all_lines(printer, done, &VectorTable { words: t });
     }
-    if (NODES_MOST as u32) < t[COUNT_AT] {
-        return 0;
+}
+
+// The text of a replay's outcome.
+fn outcome_text(printer: &mut Printer, outcome: Outcome, t: &[u32])
+    requires { Room printer.old text_most }
+    ensures { Printed printer.old (text_for printer.old.out.now outcome t.now) text_most printer.new }
+{
+    match outcome {
+        Ok(done) => done_text(printer, done, t),
+        Err(Stopped::Bad { line, fault }) => textlines::bad_line(printer, line, fault),
+        Err(Stopped::Unread { refusal }) => textlines::unread_line(printer, refusal),
     }
-    if (NODES_MOST as u32) < n {
-        return 0;
-    }
-    all_lines(out, n, steps, refused, t)
 }
 
 // The text of a replay's outcome and table, from place 0 of the buffer, and its length.
@@ -50,13 +56,7 @@ pub fn show(out: &mut [u8], outcome: Outcome, t: &[u32]) -> usize
     if out.len() < TEXT_MOST {
         return 0;
     }
-    match outcome {
-        Outcome::Bad {
-            line,
-            number,
-            place,
-        } => textlines::bad_line(out, line, number, place),
-        Outcome::Refused { number } => textlines::unread_line(out, number),
-        Outcome::Done { n, steps, refused } => done_text(out, n, steps, refused, t),
-    }
+    let mut printer = Printer { out, at: 0 };
+    outcome_text(&mut printer, outcome, t);
+    printer.at
 }

@@ -1,39 +1,45 @@
-// The lines of a replay's text that are not a node's, written from place 0 of a lent buffer. Document 01, "Frames and journals".
-// Each answers the place after what it wrote; its caller shows that there is room.
+// The lines of a replay's text that are not a node's, printed one after the other.
+// Each function's caller shows that the printer has room.
 #![tactic(auto)]
 
-ghost use Rattle.std.specs.Prelude.{◌≤◌, length};
-ghost use Rattle.printing.specs.Wrote.{Wrote};
+ghost use Rattle.meaning.specs.Refusals.{number_of};
+ghost use Rattle.printing.specs.Printed.{Printed, Room};
 ghost use Rattle.textlines.specs.TextLines.{bad_line, unread_line, first_line};
 
-// "`BAD line number`", and the place "as a third number"
-pub fn bad_line(out: &mut [u8], line: usize, number: u32, place: usize) -> usize
-    requires { 67 ≤ length out.old }
-    ensures { Wrote out.old 0 (bad_line line number place) 67 result out.new }
+use meaning::{Done, Fault, Refusal};
+use printing::Printer;
+use wording::said_one;
+
+// A refused line: `BAD`, the line's number, the refusal's number and its place in the line.
+pub fn bad_line(printer: &mut Printer, line: usize, fault: Fault)
+    requires { Room printer.old 67 }
+    ensures { Printed printer.old (bad_line line (number_of fault.refusal) fault.place) 67 printer.new }
 {
-    let a = wording::said_one(out, 0, b"BAD", line);
-    let b = printing::entry(out, a, number as usize);
-    let c = printing::entry(out, b, place);
-    printing::put(out, c, b'\n')
+    let number = u32::from(fault.refusal) as usize;
+    said_one(printer, b"BAD", line);
+    printer.entry(number);
+    printer.entry(fault.place);
+    printer.put(b'\n');
 }
 
-// A refusal that has neither line nor place: "16 has none".
-pub fn unread_line(out: &mut [u8], number: u32) -> usize
-    requires { 46 ≤ length out.old }
-    ensures { Wrote out.old 0 (unread_line number) 46 result out.new }
+// A refusal that has neither line nor place: `BAD`, 0 for the line, and the refusal's number.
+pub fn unread_line(printer: &mut Printer, refusal: Refusal)
+    requires { Room printer.old 46 }
+    ensures { Printed printer.old (unread_line (number_of refusal)) 46 printer.new }
 {
-    let a = wording::said_one(out, 0, b"BAD", 0);
-    let b = printing::entry(out, a, number as usize);
-    printing::put(out, b, b'\n')
+    let number = u32::from(refusal) as usize;
+    said_one(printer, b"BAD", 0);
+    printer.entry(number);
+    printer.put(b'\n');
 }
 
-// "`N`, the count, `STEPS`, all step lines, `REFUSED`, those refused"
-pub fn first_line(out: &mut [u8], n: u32, steps: usize, refused: usize) -> usize
-    requires { 79 ≤ length out.old }
-    ensures { Wrote out.old 0 (first_line n steps refused) 79 result out.new }
+// The first line: `N` and the count, `STEPS` and all step lines, `REFUSED` and those refused.
+pub fn first_line(printer: &mut Printer, done: Done)
+    requires { Room printer.old 79 }
+    ensures { Printed printer.old (first_line done.n done.steps done.refused) 79 printer.new }
 {
-    let a = wording::said_one(out, 0, b"N", n as usize);
-    let b = wording::said_one(out, a, b" STEPS", steps);
-    let c = wording::said_one(out, b, b" REFUSED", refused);
-    printing::put(out, c, b'\n')
+    said_one(printer, b"N", done.n as usize);
+    said_one(printer, b" STEPS", done.steps);
+    said_one(printer, b" REFUSED", done.refused);
+    printer.put(b'\n');
 }

@@ -9,20 +9,30 @@ use lib.ListN.{length, get_or, take, drop, length-drop, get_or-eq_default}
 use lib.Seq.{get_or-take, get_or-drop, length-take-le}
 use borrow.Author.Tests.{leb-true, leb-false, eqb-true, eqb-false, eq-eqb, ne_eqb, lt-leb}
 use Rattle.meaning.specs.declared.Action.{Action}
-use Rattle.meaning.specs.declared.Line.{Line}
-use Rattle.meaning.specs.declared.Line.TheVariants.{Act}
-use Rattle.meaning.specs.declared.Next.TheVariants.{Act as ActAt}
-use Rattle.meaning.specs.Table.{Sound}
-use Rattle.meaning.specs.Steps.{refusal, after}
-use Rattle.meaning.specs.Frames.{bytes_of, all_digits, digit_value, journal_kinds, action_of, line_kind, line_fields, line_refusal, read_line}
-use Rattle.meaning.specs.Journals.{until_lf, has_lf, line_at, place_after, one_if, next_in}
-use Rattle.meaning.proofs.FrameLaws.{digit-none, digits_cons, digits_even, Good, good, read_refused, read_begin, read_act}
+use Rattle.std.specs.Prelude.{Option, Some, Ok}
+use Rattle.meaning.specs.declared.Said.TheVariants.{Act}
+use Rattle.meaning.specs.declared.NextLine.TheVariants.{Act as ActAt}
+use Rattle.meaning.specs.Steps.{reply, after}
+use Rattle.meaning.specs.Frames.{Line, bytes_of, all_digits, digit_value, journal_kinds, action_of, line_kind, line_fields, line_refusal, read_line}
+use Rattle.meaning.specs.Journals.{until_lf, has_lf, line_at, place_after, next_in}
+use Rattle.meaning.proofs.FrameLaws.{digit-none, digits_cons, digits_even, Good, good, read_wrong, read_begin, read_act}
 use Rattle.meaning.proofs.JournalLaws.{line_ended, ended}
 use Rattle.heads.proofs.QuickLaws.{no_length}
 use Rattle.meaning.specs.Lines.{left_by}
-use Rattle.steplines.specs.StepLines.{told_of, Turned, Begins}
+use Rattle.steplines.specs.declared.Turn.{Turn}
+use Rattle.steplines.specs.declared.Turn.TheVariants.{Unsure}
+use Rattle.steplines.specs.StepLines.{turn_of, told_of, Turned, Begins}
 use Rattle.steplines.proofs.StepLineLaws.{turned_none}
-use Rattle.turns.specs.Turns.{due_by, ends_at, due_at, said_at}
+use Rattle.turns.specs.Turns.{some_due, due_by, ends_at, due_at, said_at}
+
+-- so many digits, as an option
+pub some_is : (k : ℕ) → 0 < k → Some k ≡ some_due k
+some_is zero h = absurd (omega arith)
+some_is (suc k) h = refl
+
+pub due_told : (d k : ℕ) → Some d ≡ some_due k → d ≡ k
+due_told d zero e = absurd (cc e)
+due_told d (suc k) e = cc e
 
 -- the digits that are due, by the kind's two characters
 module _ (high low : ℕ) where
@@ -112,9 +122,9 @@ module _ (s : List ℕ) (at : ℕ) where
   unfolding due_at
   due-nothing e = ends_none s at (due_by (get_or s at 0) (get_or s (at + 1) 0)) e
 
-  pub due_is : (r k : ℕ) → due_by (get_or s at 0) (get_or s (at + 1) 0) ≡ k → r ≡ ends_at s at k → r ≡ due_at s at
+  pub due_is : (r : Option ℕ) (k : ℕ) → due_by (get_or s at 0) (get_or s (at + 1) 0) ≡ k → r ≡ some_due (ends_at s at k) → r ≡ some_due (due_at s at)
   unfolding due_at
-  due_is r k e q = q ∙ ap (ends_at s at) (sym e)
+  due_is r k e q = q ∙ ap (λ (n : ℕ). some_due (ends_at s at n)) (sym e)
 
   -- a line of so many characters, ended by an LF
   pub record Ended (due low : ℕ) : Type 0 where
@@ -178,13 +188,12 @@ digits_until (suc k) (c ∷ cs) d e =
     (cc (other, rest.0), cc (other, rest.1))
 
 -- What a turn that is sure tells: the reader finds the step there, whatever the line number, and the turn has applied it
-pub record Taken (s : List ℕ) (at due : ℕ) (t : List ℕ) (told : ℕ) (t' : List ℕ) : Type 0 where
+pub record Taken (s : List ℕ) (at due : ℕ) (t : List ℕ) (told : Turn) (t' : List ℕ) : Type 0 where
   pub action : Action
-  pub found : (line : ℕ) → next_in false s at line ≡ ActAt (record { line = line; action = action }) (at + (due + 1))
+  pub found : (line : ℕ) → next_in false s at line ≡ Ok (Some (ActAt (record { line = line; action = action }) (at + (due + 1))))
   pub room : at + due < length s
-  pub counts : told ≡ one_if (refusal t action)
+  pub tells : told ≡ turn_of (reply t action)
   pub leaves : t' ≡ after t action
-  pub is_sound : Sound t'
 
 module _ (s : List ℕ) (at due : ℕ) (e : due ≡ due_at s at) where
   abbrev front : List ℕ
@@ -192,13 +201,13 @@ module _ (s : List ℕ) (at due : ℕ) (e : due ≡ due_at s at) where
 
   -- the line at the place is the one of so many digits
   module _ (g : Good front) where
-    some_due : due ≡ 0 → ⊥
-    some_due z =
+    not_none : due ≡ 0 → ⊥
+    not_none z =
         let none : length front ≡ 0 = ap (λ (k : ℕ). length (take k (drop at s))) z in
         omega (arith, none, g.long, (digits_even journal_kinds (line_kind (bytes_of front))).1)
 
     lf_there : get_or (drop at s) due 0 ≡ 10
-    lf_there = get_or-drop at s due 0 ∙ (due-ended s at due e some_due).1
+    lf_there = get_or-drop at s due 0 ∙ (due-ended s at due e not_none).1
 
     front_is : (line_at s at ≡ front) × (has_lf (drop at s) ≡ true)
     front_is =
@@ -208,17 +217,17 @@ module _ (s : List ℕ) (at due : ℕ) (e : due ≡ due_at s at) where
     after_is : place_after s at ≡ at + (due + 1)
     unfolding place_after
     after_is =
-        let room = due_room s at due e some_due in
+        let room = due_room s at due e not_none in
         let long = length-take-le due (drop at s) (omega (arith, length-drop at s)) in
         omega (arith, ap length front_is.0, long)
 
-    found_act : {x : Action} (line : ℕ) → Act (record { line = line; action = x }) ≡ read_line line front
-        → next_in false s at line ≡ ActAt (record { line = line; action = x }) (at + (due + 1))
+    found_act : {x : Action} (line : ℕ) → Ok (Act (record { line = line; action = x })) ≡ read_line line front
+        → next_in false s at line ≡ Ok (Some (ActAt (record { line = line; action = x }) (at + (due + 1))))
     unfolding next_in
     found_act {x} line is =
-        let room = due_room s at due e some_due in
+        let room = due_room s at due e not_none in
         let inside = lt-leb (length s) at (omega arith) in
-        let said : read_line line (line_at s at) ≡ Act (record { line = line; action = x }) = ap (read_line line) front_is.0 ∙ sym is in
+        let said : read_line line (line_at s at) ≡ Ok (Act (record { line = line; action = x })) = ap (read_line line) front_is.0 ∙ sym is in
         rw (inside, ended s at front_is.1, said, after_is)
 
   -- a turn's parts, as the program lends them
@@ -235,30 +244,30 @@ module _ (s : List ℕ) (at due : ℕ) (e : due ≡ due_at s at) where
   pub part_short : due ≡ 6 → length (take (at + 6 - at) (drop at s)) ≡ 6
   part_short is = ap length (part_is 6 is) ∙ (ended_short s at due e is).1
 
-  pub part_turned : (k : ℕ) → due ≡ k → {t : List ℕ} {told : ℕ} {t' : List ℕ} → Turned t (read_line 1 (take (at + k - at) (drop at s))) told t'
+  pub part_turned : (k : ℕ) → due ≡ k → {t : List ℕ} {told : Turn} {t' : List ℕ} → Turned t (read_line 1 (take (at + k - at) (drop at s))) told t'
       → Turned t (said_at s at) told t'
   unfolding said_at
   part_turned k is x = rw (sym (part_is k is ∙ ap (λ (m : ℕ). take m (drop at s)) e)) x
 
   -- no other length is a line's
-  pub turned_other : (t : List ℕ) → Sound t → (due ≡ 24 → ⊥) → (due ≡ 26 → ⊥) → (due ≡ 6 → ⊥) → Turned t (said_at s at) 2 t
+  pub turned_other : (t : List ℕ) → (due ≡ 24 → ⊥) → (due ≡ 26 → ⊥) → (due ≡ 6 → ⊥) → Turned t (said_at s at) Unsure t
   unfolding said_at
-  turned_other t sound a b c =
+  turned_other t a b c =
       let none : Good front → ⊥ = λ g.
-      let room = due_room s at due e (some_due g) in
+      let room = due_room s at due e (not_none g) in
       let long = length-take-le due (drop at s) (omega (arith, length-drop at s)) in
       no_length front g (λ z. c (sym long ∙ z)) (λ z. a (sym long ∙ z)) (λ z. b (sym long ∙ z)) in
-      rw (ap (λ (m : ℕ). take m (drop at s)) (sym e)) (turned_none t sound front none)
+      rw (ap (λ (m : ℕ). take m (drop at s)) (sym e)) (turned_none t front none)
 
-  pub taken : (t : List ℕ) (told : ℕ) (t' : List ℕ) → Turned t (said_at s at) told t' → told < 2 → Taken s at due t told t'
+  pub taken : (t : List ℕ) (told : Turn) (t' : List ℕ) → Turned t (said_at s at) told t' → (told ≡ Unsure → ⊥) → Taken s at due t told t'
   unfolding said_at
   taken t told t' x sure = go (line_refusal front) refl
     where
       said : said_at s at ≡ read_line 1 front
       said = ap (λ (k : ℕ). read_line 1 (take k (drop at s))) (sym e)
 
-      none : {y : Line} → y ≡ read_line 1 front → told_of t y ≡ 2 → Taken s at due t told t'
-      none is two = absurd (omega (arith, x.tells, ap (told_of t) (said ∙ sym is), two))
+      none : {y : Line} → y ≡ read_line 1 front → told_of t y ≡ Unsure → Taken s at due t told t'
+      none is two = absurd (sure (x.tells ∙ ap (told_of t) (said ∙ sym is) ∙ two))
 
       act : line_refusal front ≡ 0 → (line_kind (bytes_of front) ≡ 0 → ⊥) → Taken s at due t told t'
       act clear step =
@@ -267,10 +276,9 @@ module _ (s : List ℕ) (at due : ℕ) (e : due ≡ due_at s at) where
           record {
             action = action_of (line_kind (bytes_of front)) (line_fields (bytes_of front));
             found = λ line. found_act g line (read_act line front clear step);
-            room = due_room s at due e (some_due g);
-            counts = x.tells ∙ ap (told_of t) (said ∙ sym is);
+            room = due_room s at due e (not_none g);
+            tells = x.tells ∙ ap (told_of t) (said ∙ sym is);
             leaves = x.leaves ∙ ap (left_by t) (said ∙ sym is);
-            is_sound = x.is_sound;
           }
 
       by_kind : line_refusal front ≡ 0 → (b : Bool) → eqb (line_kind (bytes_of front)) 0 ≡ b → Taken s at due t told t'
@@ -279,4 +287,4 @@ module _ (s : List ℕ) (at due : ℕ) (e : due ≡ due_at s at) where
 
       go : (k : ℕ) → line_refusal front ≡ k → Taken s at due t told t'
       go zero p = by_kind p (eqb (line_kind (bytes_of front)) 0) refl
-      go (suc k) p = none (read_refused 1 k front p) refl
+      go (suc k) p = none (read_wrong 1 k front p) refl

@@ -1,16 +1,17 @@
 -- The verdict count as the code counts: from the last record to the first, by the verdicts' low bytes, and the verdicts' bits gathered.
-use mathlib.Core.Path.{◌≡◌, refl, sym, ap, subst, ◌∙◌}
+use mathlib.Core.Path.{◌≡◌, refl, sym, ap, ◌∙◌}
 use mathlib.Core.Bool.{Bool, true, false, ◌&&◌, and-true}
 use mathlib.Core.List.{List, [], ◌∷◌, map}
 use Prim.Native.Nat.{ℕ, ◌+◌, ◌-◌, ◌*◌, ◌/◌, ◌%◌, ◌<◌, ◌≤◌}
 use native.Mathlib.Omega.{arith}
 use borrow.Author.Tests.{le-leb, lt-leb, leb-true}
-use lib.ListN.{length, get_or, replicate}
+use lib.ListN.{length, replicate}
 use lib.Bits.{bit_or}
 use lib.Dec.{leb}
 use Rattle.meaning.specs.declared.Record.{Record}
-use Rattle.meaning.specs.declared.Count.TheVariants.{Counted, Refused}
-use Rattle.meaning.specs.Refusals.{first}
+use Rattle.std.specs.Prelude.{Ok, Err}
+use Rattle.meaning.specs.declared.Refusal.TheVariants.{Unsound}
+use Rattle.meaning.specs.Refusals.{first, refusal_of}
 use Rattle.meaning.specs.Rows.{all, every, record_at, records}
 use Rattle.meaning.specs.Table.{log_most}
 use Rattle.meaning.specs.Verdicts.{scrubbed, touched, gap, counted, verdict_count}
@@ -46,61 +47,50 @@ low_bytes (r ∷ rs) h =
     λ i. e i ∷ ih i
 
 module _ (w : List ℕ) where
-  -- the verdict of the record that ends before word `end`
-  pub verdict_at : (end : ℕ) → end % 4 ≡ 0 → 0 < end → get_or w (end - 1) 0 ≡ (record_at w (end / 4 - 1)).verdict
-  unfolding record_at
-  verdict_at end even some = ap (λ (j : ℕ). get_or w j 0) (omega arith)
-
-  -- The records from word `end` on are counted, and their verdicts are gathered.
-  pub record Counting (end : ℕ) (heads links : List ℕ) (s t seen : ℕ) : Type 0 where
-    pub inside : end ≤ length w
-    pub even : end % 4 ≡ 0
-    pub noted : Noted w (end / 4) heads links s t
-    pub bytes : every (length w / 4) (λ i. leb (record_at w i).verdict 255) ≡ (every (end / 4) (λ i. leb (record_at w i).verdict 255) && leb seen 255)
+  -- The records from row k on are counted, and their verdicts are gathered.
+  pub record Counting (k : ℕ) (heads links : List ℕ) (s t seen : ℕ) : Type 0 where
+    pub inside : 4 * k ≤ length w
+    pub noted : Noted w k heads links s t
+    pub bytes : every (length w / 4) (λ i. leb (record_at w i).verdict 255) ≡ (every k (λ i. leb (record_at w i).verdict 255) && leb seen 255)
 
   module _ (room : length w ≤ 4 * log_most) (whole : length w % 4 ≡ 0) where
-    pub counting_none : Counting (length w) (replicate 64 0) (replicate 64 0) 0 0 0
+    pub counting_none : Counting (length w / 4) (replicate 64 0) (replicate 64 0) 0 0 0
     counting_none =
         record {
           inside = omega arith;
-          even = whole;
           noted = noted-none w room;
           bytes = sym (and-true (every (length w / 4) (λ i. leb (record_at w i).verdict 255)));
         }
 
-    pub counting_more : (end s t s' t' seen v : ℕ) (heads links heads' links' : List ℕ) → 0 < end → v ≡ (record_at w (end / 4 - 1)).verdict
-        → Noted w (end / 4 - 1) heads' links' s' t' → Counting end heads links s t seen → Counting (end - 4) heads' links' s' t' (bit_or seen v)
-    counting_more end s t s' t' seen v heads links heads' links' some ev noted' before =
-        let even = before.even in
-        let er : end / 4 ≡ end / 4 - 1 + 1 = omega arith in
-        let ed : end / 4 - 1 ≡ (end - 4) / 4 = omega arith in
+    pub counting_more : (n s t s' t' seen v : ℕ) (heads links heads' links' : List ℕ) → 0 < n → v ≡ (record_at w (n - 1)).verdict
+        → Noted w (n - 1) heads' links' s' t' → Counting n heads links s t seen → Counting (n - 1) heads' links' s' t' (bit_or seen v)
+    counting_more n s t s' t' seen v heads links heads' links' some ev noted' before =
+        let en : n ≡ n - 1 + 1 = omega arith in
         record {
           inside = omega (arith, before.inside);
-          even = omega arith;
-          noted = subst (λ (k : ℕ). Noted w k heads' links' s' t') ed noted';
+          noted = noted';
           bytes =
               before.bytes ∙
-              ap (λ (k : ℕ). every k (λ i. leb (record_at w i).verdict 255) && leb seen 255) er ∙
-              (rw (every_more, or_byte, ← ev) (moved (every (end / 4 - 1) (λ i. leb (record_at w i).verdict 255)) (leb v 255) (leb seen 255))) ∙
-              ap (λ (k : ℕ). every k (λ i. leb (record_at w i).verdict 255) && leb (bit_or seen v) 255) ed;
+              ap (λ (k : ℕ). every k (λ i. leb (record_at w i).verdict 255) && leb seen 255) en ∙
+              (rw (every_more, or_byte, ← ev) (moved (every (n - 1) (λ i. leb (record_at w i).verdict 255)) (leb v 255) (leb seen 255)));
         }
 
     -- the answer, where all are counted: a verdict that is no byte, or the counts
-    module _ (end : ℕ) (done : end ≤ 0) (heads links : List ℕ) (s t seen : ℕ) (counting : Counting end heads links s t seen) where
-      row_0 : end / 4 ≡ 0
-      row_0 = omega arith
+    module _ (n : ℕ) (done : n < 1) (heads links : List ℕ) (s t seen : ℕ) (counting : Counting n heads links s t seen) where
+      n_0 : n ≡ 0
+      n_0 = omega arith
 
       every_byte : every (length w / 4) (λ i. leb (record_at w i).verdict 255) ≡ leb seen 255
-      every_byte = counting.bytes ∙ rw (row_0, every-none)
+      every_byte = counting.bytes ∙ rw (n_0, every-none)
 
-      pub count-wide : 255 < seen → Refused 1 ≡ verdict_count w
-      unfolding verdict_count first
+      pub count-wide : 255 < seen → Err Unsound ≡ verdict_count w
+      unfolding verdict_count first refusal_of
       count-wide wide = rw (whole_refusal w (length w / 4) (omega arith) (omega arith), every_byte, lt-leb seen 255 wide)
 
       module _ (low : seen ≤ 255) where
-        all_bytes : since w (end / 4) ≡ records (length w / 4) w
+        all_bytes : since w n ≡ records (length w / 4) w
         all_bytes =
-            ap (since w) row_0 ∙
+            ap (since w) n_0 ∙
             low_bytes (records (length w / 4) w)
             (sym (every-records (length w / 4) (λ x. leb x.verdict 255) w) ∙ every_byte ∙ le-leb seen 255 low)
 
@@ -117,6 +107,6 @@ module _ (w : List ℕ) where
             let b = count-touched in
             omega (arith, touched_most (records (length w / 4) w))
 
-        pub count-all : Counted s t (s - t) ≡ verdict_count w
+        pub count-all : Ok (record { scrubbed = s; touched = t; gap = s - t }) ≡ verdict_count w
         unfolding verdict_count first counted gap
         count-all = rw (whole_refusal w (length w / 4) (omega arith) (omega arith), every_byte, le-leb seen 255 low, count-scrubbed, count-touched)

@@ -1,1 +1,1 @@
-pub mod WroteRow
+pub mod PrintedRow

@@ -1,54 +1,48 @@
-// Words and numbers after them, printed into a lent buffer. Document 01, "Frames and journals": what the replay prints.
-// Each function writes at a place and answers the place after what it wrote; its caller shows that there is room.
+// Words and numbers after them, printed one after the other.
+// Each function's caller shows that the printer has room.
 #![tactic(auto)]
 
-ghost use Rattle.std.specs.Prelude.{[], ◌∷◌, ◌++◌, ◌+◌, ◌*◌, ◌≤◌, length};
+ghost use Rattle.std.specs.Prelude.{[], ◌∷◌, ◌++◌, ◌+◌, ◌*◌, length};
 ghost use Rattle.meaning.specs.Journals.{spaced};
-ghost use Rattle.printing.specs.Wrote.{Wrote};
-ghost use Rattle.wording.specs.WroteRow.{WroteRow, row_most};
+ghost use Rattle.printing.specs.Printed.{Printed, Room};
+ghost use Rattle.wording.specs.PrintedRow.{PrintedRow, row_most};
+
+use printing::Printer;
 
 // A row of numbers, each with a space before it.
-fn row(out: &mut [u8], at: usize, vs: &[u32]) -> usize
-    requires { at + 21 * length vs.now ≤ length out.old }
-    ensures { Wrote out.old at (spaced vs.now) (21 * length vs.now) result out.new }
+fn row(printer: &mut Printer, vs: &[u32])
+    requires { Room printer.old (21 * length vs.now) }
+    ensures { Printed printer.old (spaced vs.now) (21 * length vs.now) printer.new }
 {
-    let mut next = at;
-    let mut i = 0;
-    while i < vs.len() {
-        next = printing::entry(out, next, vs[i] as usize);
-        i += 1;
+    for v in vs {
+        printer.entry(*v as usize);
     }
-    next
 }
 
 // A word, byte for byte.
-fn word(out: &mut [u8], at: usize, w: &[u8]) -> usize
-    requires { at + length w.now ≤ length out.old }
-    ensures { Wrote out.old at w.now (length w.now) result out.new }
+fn word(printer: &mut Printer, w: &[u8])
+    requires { Room printer.old (length w.now) }
+    ensures { Printed printer.old w.now (length w.now) printer.new }
 {
-    let mut next = at;
-    let mut i = 0;
-    while i < w.len() {
-        next = printing::put(out, next, w[i]);
-        i += 1;
-    }
-    next
+    let end = printer.at + w.len();
+    printer.out[printer.at..end].copy_from_slice(w);
+    printer.at = end;
 }
 
 // A word and one number after it.
-pub fn said_one(out: &mut [u8], at: usize, w: &[u8], v: usize) -> usize
-    requires { at + (length w.now + 21) ≤ length out.old }
-    ensures { Wrote out.old at (w.now ++ spaced (v ∷ [])) (length w.now + 21) result out.new }
+pub fn said_one(printer: &mut Printer, w: &[u8], v: usize)
+    requires { Room printer.old (length w.now + 21) }
+    ensures { Printed printer.old (w.now ++ spaced (v ∷ [])) (length w.now + 21) printer.new }
 {
-    let next = word(out, at, w);
-    printing::entry(out, next, v)
+    word(printer, w);
+    printer.entry(v);
 }
 
 // A word and a row of numbers after it.
-pub fn said_row(out: &mut [u8], at: usize, w: &[u8], vs: &[u32]) -> usize
-    requires { at + row_most w.now vs.now ≤ length out.old }
-    ensures { WroteRow out.old at w.now vs.now result out.new }
+pub fn said_row(printer: &mut Printer, w: &[u8], vs: &[u32])
+    requires { Room printer.old (row_most w.now vs.now) }
+    ensures { PrintedRow printer.old w.now vs.now printer.new }
 {
-    let next = word(out, at, w);
-    row(out, next, vs)
+    word(printer, w);
+    row(printer, vs);
 }

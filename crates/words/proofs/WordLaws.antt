@@ -2,14 +2,18 @@
 use mathlib.Core.Path.{◌≡◌, refl, sym, ◌∙◌, ap}
 use mathlib.Core.Bool.{Bool, true, false}
 use mathlib.Core.List.{List, [], ◌∷◌, ◌++◌}
-use Prim.Native.Nat.{ℕ, zero, suc, ◌/◌, ◌%◌, ◌≤◌, ◌<◌}
+use Prim.Native.Nat.{ℕ, zero, suc, ◌≤◌, ◌<◌}
 use native.Mathlib.Omega.{arith}
 use lib.ListN.{length, take, drop, take-append-drop}
 use lib.Dec.{eqb}
 use borrow.Author.Tests.{eqb-true, eqb-false}
 use Rattle.meaning.specs.declared.Fault.{Fault}
-use Rattle.meaning.specs.declared.Line.{Line}
+use Rattle.std.specs.Prelude.{Option, Some, None}
+use Rattle.meaning.specs.declared.Refusal.TheVariants.{RoomShort}
+use Rattle.heads.specs.declared.Short.{Short}
+use Rattle.six.proofs.SixLaws.{puts_is, puts_not}
 use Rattle.meaning.specs.Frames.{
+  Line,
   bytes_of,
   journal_kinds,
   known,
@@ -27,43 +31,43 @@ use Rattle.meaning.specs.Frames.{
   words_after,
   ReadWords,
 }
-use Rattle.meaning.proofs.FrameLaws.{clear, kind_cases, words_refused, words_few, words_full}
+use Rattle.meaning.proofs.FrameLaws.{clear, no_fault, read_none, kind_cases, words_refused, words_few, words_full}
 use Rattle.meaning.proofs.PlaceLaws.{mid_place}
-use Rattle.heads.specs.Heads.{no_line, accepted, short_of}
-use Rattle.heads.proofs.HeadLaws.{accepted_not, accepted_clear, accepted_refused}
-use Rattle.heads.proofs.QuickLaws.{short_tells, held_six, held_kind, held_not, held_refused}
+use Rattle.heads.specs.Heads.{short_of}
+use Rattle.heads.proofs.HeadLaws.{accepted_clear, accepted_refused}
+use Rattle.heads.proofs.QuickLaws.{short_tells, held_kind, held_not, held_refused}
 use Rattle.heads.proofs.SaidLaws.{purge_line, deliver_line, start_line}
 use Rattle.six.specs.Six.{Puts}
 
 -- the six values of a start, of a purge and of a delivery, by what the line holds
-module _ (l : List ℕ) (x : ℕ) (e : x ≡ short_of l) (few : length l < 24) (h : x < no_line) where
-  pub six_short : x / 256 ∷ x % 256 ∷ 0 ∷ 0 ∷ 0 ∷ 0 ∷ [] ≡ six_values l
+module _ (l : List ℕ) (x : Short) (few : length l < 24) (e : Some x ≡ short_of l) where
+  six_short : x.kind ∷ x.field ∷ 0 ∷ 0 ∷ 0 ∷ 0 ∷ [] ≡ six_values l
   unfolding six_values padded digits_in widths_in journal_kinds
-  six_short = go (line_kind (bytes_of l)) refl (short_tells l x e h).0.has_kind (held_not l x e few h 1) (held_not l x e few h 2)
+  six_short = go (line_kind (bytes_of l)) refl (short_tells l x e).0.has_kind (held_not l x e few 1) (held_not l x e few 2)
     where
       said : ℕ → List ℕ
-      said k = k ∷ x % 256 ∷ 0 ∷ 0 ∷ 0 ∷ 0 ∷ []
+      said k = k ∷ x.field ∷ 0 ∷ 0 ∷ 0 ∷ 0 ∷ []
 
-      six : length l ≡ 6
-      six = held_six l x e few h
-
-      at : (k : ℕ) → line_kind (bytes_of l) ≡ k → x / 256 ≡ k
-      at k z = held_kind l x e few h ∙ z
+      at : (k : ℕ) → line_kind (bytes_of l) ≡ k → x.kind ≡ k
+      at k z = held_kind l x e few ∙ z
 
       go : (k : ℕ) → line_kind (bytes_of l) ≡ k → known k ≡ true → ((digits_of 1 ≡ 6 → ⊥) → line_kind (bytes_of l) ≡ 1 → ⊥)
-          → ((digits_of 2 ≡ 6 → ⊥) → line_kind (bytes_of l) ≡ 2 → ⊥) → x / 256 ∷ x % 256 ∷ 0 ∷ 0 ∷ 0 ∷ 0 ∷ [] ≡ padded 6 (drop 2 (line_values (read_line 0 l)))
+          → ((digits_of 2 ≡ 6 → ⊥) → line_kind (bytes_of l) ≡ 2 → ⊥) → x.kind ∷ x.field ∷ 0 ∷ 0 ∷ 0 ∷ 0 ∷ [] ≡ padded 6 (drop 2 (line_values (read_line 0 l)))
       go k is has one two =
-          kind_cases (λ (m : ℕ). line_kind (bytes_of l) ≡ m → x / 256 ∷ x % 256 ∷ 0 ∷ 0 ∷ 0 ∷ 0 ∷ [] ≡ padded 6 (drop 2 (line_values (read_line 0 l))))
-          (λ z. ap said (at 0 z) ∙ ap (λ (y : Line). padded 6 (drop 2 (line_values y))) (start_line l six x e h 0 (at 0 z)))
+          kind_cases (λ (m : ℕ). line_kind (bytes_of l) ≡ m → x.kind ∷ x.field ∷ 0 ∷ 0 ∷ 0 ∷ 0 ∷ [] ≡ padded 6 (drop 2 (line_values (read_line 0 l))))
+          (λ z. ap said (at 0 z) ∙ ap (λ (y : Line). padded 6 (drop 2 (line_values y))) (start_line l x e 0 (at 0 z)))
           (λ z. absurd (one (omega arith) z))
           (λ z. absurd (two (omega arith) z))
-          (λ z. ap said (at 3 z) ∙ ap (λ (y : Line). padded 6 (drop 2 (line_values y))) (purge_line l six x e h 0 (at 3 z)))
-          (λ z. ap said (at 5 z) ∙ ap (λ (y : Line). padded 6 (drop 2 (line_values y))) (deliver_line l six x e h 0 (at 5 z)))
+          (λ z. ap said (at 3 z) ∙ ap (λ (y : Line). padded 6 (drop 2 (line_values y))) (purge_line l x e 0 (at 3 z)))
+          (λ z. ap said (at 5 z) ∙ ap (λ (y : Line). padded 6 (drop 2 (line_values y))) (deliver_line l x e 0 (at 5 z)))
           k has is
 
+  pub short_put : (w w' : List ℕ) → w' ≡ x.kind ∷ x.field ∷ 0 ∷ 0 ∷ 0 ∷ 0 ∷ [] → Puts l w true w'
+  short_put w w' p = puts_is l w w' (clear l (short_tells l x e).0) (p ∙ six_short)
+
 -- a short line that holds nothing is refused
-pub short_refused : (l : List ℕ) → length l < 24 → no_line ≤ short_of l → accepted l ≡ false
-short_refused l few h = accepted_not l (λ g. held_refused l (short_of l) refl few (omega arith) (clear l g))
+pub short_refused : (l w : List ℕ) → None ≡ short_of l → Puts l w false w
+short_refused l w e = puts_not l w (held_refused l e)
 
 -- a line's six values are six
 length-padded : (k : ℕ) (xs : List ℕ) → length (padded k xs) ≡ k
@@ -78,15 +82,16 @@ length_six l = length-padded 6 (drop 2 (line_values (read_line 0 l)))
 
 -- fewer than six words: the same answer for any such words
 module _ (l : List ℕ) where
-  pub few_refused : (f : Fault) → f ≡ line_fault l → (f.number ≡ 0 → ⊥) → f ≡ words_fault l []
-  unfolding line_fault
-  few_refused f e h = e ∙ (words_refused l [] (λ z. h (ap (λ (x : Fault). x.number) e ∙ z))).0
+  fault_refuses : (f : Fault) → Some f ≡ line_fault l → line_refusal l ≡ 0 → ⊥
+  fault_refuses f e z = cc (no_fault l z, e)
 
-  pub few_accepted : (f : Fault) → f ≡ line_fault l → f.number ≡ 0 → record { number = 17; place = 0 } ≡ words_fault l []
-  unfolding line_fault
-  few_accepted f e z = (words_few l [] (sym (ap (λ (x : Fault). x.number) e) ∙ z) (omega arith)).0
+  pub few_refused : (f : Fault) → Some f ≡ line_fault l → Some f ≡ words_fault l []
+  few_refused f e = e ∙ (words_refused l [] (fault_refuses f e)).0
 
-  pub few_words : (words : List ℕ) (f : Fault) → length words < 6 → f ≡ words_fault l [] → ReadWords l words f words
+  pub few_accepted : None ≡ line_fault l → Some (record { refusal = RoomShort; place = 0 }) ≡ words_fault l []
+  few_accepted e = (words_few l [] (read_none l (sym e)) (omega arith)).0
+
+  pub few_words : (words : List ℕ) (f : Option Fault) → length words < 6 → f ≡ words_fault l [] → ReadWords l words f words
   few_words words f h e = go (eqb (line_refusal l) 0) refl
     where
       go : (b : Bool) → eqb (line_refusal l) 0 ≡ b → ReadWords l words f words
@@ -107,7 +112,7 @@ module _ (l : List ℕ) where
 
   -- six words of those lent
   pub full_words : (words w' out : List ℕ) → 6 ≤ length words → Puts l (take 6 words) true w' → out ≡ w' ++ drop 6 words
-      → ReadWords l words (record { number = 0; place = 0 }) out
+      → ReadWords l words None out
   full_words words w' out h p e =
       let z = accepted_clear l (sym p.0) in
       let full = words_full l words z h in
@@ -115,7 +120,7 @@ module _ (l : List ℕ) where
       let long : length (six_values l) ≡ 6 = length_six l in
       (full.0, e ∙ ap (λ (w : List ℕ). w ++ drop 6 words) six ∙ mid_place 0 6 words (six_values l) long ∙ full.1)
 
-  pub kept_words : (words w' out : List ℕ) (f : Fault) → Puts l (take 6 words) false w' → out ≡ w' ++ drop 6 words → f ≡ line_fault l
+  pub kept_words : (words w' out : List ℕ) (f : Option Fault) → Puts l (take 6 words) false w' → out ≡ w' ++ drop 6 words → f ≡ line_fault l
       → ReadWords l words f out
   kept_words words w' out f p e g =
       let no = words_refused l words (accepted_refused l (sym p.0)) in

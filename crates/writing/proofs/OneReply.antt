@@ -2,7 +2,7 @@
 use mathlib.Core.Path.{◌≡◌, sym, ap₂, ◌∙◌}
 use mathlib.Core.List.{List}
 use Prim.Native.Nat.{ℕ}
-use Rattle.meaning.specs.declared.Framed.{Framed}
+use Rattle.meaning.specs.Frames.{Framed}
 use Rattle.meaning.proofs.OneReply.{OneReply}
 use Rattle.writing.proofs.write_step.Kinds as write_step_kinds
 use Rattle.writing.proofs.write_step.Reads as write_step

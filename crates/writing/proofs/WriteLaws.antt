@@ -1,36 +1,54 @@
--- What a session's writer answers and leaves.
-use mathlib.Core.Path.{◌≡◌, refl, sym}
-use mathlib.Core.List.{List}
-use Prim.Native.Nat.{ℕ, ◌≤◌, ◌<◌}
-use lib.ListN.{length}
-use Rattle.meaning.specs.Table.{place}
-use Rattle.meaning.specs.declared.Framed.TheVariants.{Length, Refused}
-use Rattle.meaning.specs.declared.Action.TheVariants.{Session}
-use Rattle.meaning.specs.Frames.{frame, frame_reply, frame_after}
-use Rattle.meaning.proofs.FrameLaws.{framed_outcome, framed_few, framed_full, length_session, above_three, within_three}
+-- What a writer answers and leaves: too few bytes, or the frame.
+use Rattle.std.proofs.Common.{◌≡◌, refl, Bool, true, false, cond, List, ℕ, [], ◌∷◌, ◌≤◌, ◌<◌, length, ltb}
+use Rattle.std.specs.Prelude.{Ok, Err}
+use borrow.Author.Tests.{ltb-true, ltb-false, lt-ltb, le-ltb}
+use Rattle.meaning.specs.Table.{place, count_right}
+use Rattle.meaning.specs.declared.Action.{Action}
+use Rattle.meaning.specs.declared.Refusal.{Refusal}
+use Rattle.meaning.specs.declared.Refusal.TheVariants.{RoomShort}
+use Rattle.meaning.specs.Steps.{outcome_above}
+use Rattle.meaning.specs.Frames.{widths, spelled, high_first, sealed, packed, frame_in, frame_of, frame, start_frame, Framed, Wrote, Began}
+use Rattle.meaning.proofs.FrameLaws.{framed_few, framed_full, started_few, started_full, length_start}
+use Rattle.writing.specs.Filled.{Filled}
 
--- a session's answer, test by test: the outcome, then the room
-pub session_outcome : (out : List ℕ) (a b ca cb o : ℕ) → 3 < o → frame_reply out (Session a b ca cb o) ≡ Refused 2
-session_outcome out a b ca cb o h = sym (framed_outcome out (Session a b ca cb o) (above_three a b ca cb o h)).0
+pub length_short : (kind n : ℕ) → widths kind ≡ 1 ∷ [] → length (frame_of kind (n ∷ [])) ≡ 7
+unfolding frame_in sealed packed high_first spelled
+length_short kind n e = rw (frame_in, e) refl
 
-pub session_outcome_kept : (out : List ℕ) (a b ca cb o : ℕ) → 3 < o → frame_after out (Session a b ca cb o) ≡ out
-session_outcome_kept out a b ca cb o h = sym (framed_outcome out (Session a b ca cb o) (above_three a b ca cb o h)).1
+-- bytes put where there is room for them are a step's frame, and a start's
+pub filled_wrote : (out out' : List ℕ) (x : Action) (r : Framed) → outcome_above x ≡ false → Filled out (frame x) r out' → Wrote out x r out'
+filled_wrote out out' x r p f = go (ltb (length out) (length (frame x))) refl f.0 f.1
+  where
+    go : (b : Bool) → ltb (length out) (length (frame x)) ≡ b → r ≡ cond b (Err RoomShort) (Ok (length (frame x))) → out' ≡ cond b out (place 0 (frame x) out)
+        → Wrote out x r out'
+    go true e q w = rw (q, w) (framed_few out x (length (frame x)) p refl (ltb-true (length out) (length (frame x)) e))
+    go false e q w =
+        rw (q, w) (framed_full out (place 0 (frame x) out) x (length (frame x)) p refl (ltb-false (length out) (length (frame x)) e) refl)
 
-pub session_few : (out : List ℕ) (a b ca cb o : ℕ) → o ≤ 3 → length out < 27 → frame_reply out (Session a b ca cb o) ≡ Refused 17
-session_few out a b ca cb o h r = sym (framed_few out (Session a b ca cb o) 27 (within_three a b ca cb o h) (length_session a b ca cb o) r).0
+pub filled_began : (out out' : List ℕ) (n : ℕ) (r : Framed) → count_right n ≡ true → Filled out (start_frame n) r out' → Began out n r out'
+filled_began out out' n r p f = go (ltb (length out) (length (start_frame n))) refl f.0 f.1
+  where
+    go : (b : Bool) → ltb (length out) (length (start_frame n)) ≡ b → r ≡ cond b (Err RoomShort) (Ok (length (start_frame n)))
+        → out' ≡ cond b out (place 0 (start_frame n) out) → Began out n r out'
+    go true e q w = rw (q, w) (started_few out n p (rw length_start at (ltb-true (length out) (length (start_frame n)) e)))
+    go false e q w =
+        let full = started_full out (place 0 (start_frame n) out) n p (rw length_start at (ltb-false (length out) (length (start_frame n)) e)) refl in
+        rw (q, w, length_start) full
 
-pub session_few_kept : (out : List ℕ) (a b ca cb o : ℕ) → o ≤ 3 → length out < 27 → frame_after out (Session a b ca cb o) ≡ out
-session_few_kept out a b ca cb o h r = sym (framed_few out (Session a b ca cb o) 27 (within_three a b ca cb o h) (length_session a b ca cb o) r).1
+-- a frame of one byte, where the room was asked for
+pub short_few : (out : List ℕ) (kind n : ℕ) (e : Refusal) → widths kind ≡ 1 ∷ [] → (e ≡ RoomShort) × (length out < 7)
+    → Filled out (frame_of kind (n ∷ [])) (Err e) out
+short_few out kind n e w h =
+    let few : ltb (length out) (length (frame_of kind (n ∷ []))) ≡ true = rw (length_short kind n w) (lt-ltb (length out) 7 h.1) in
+    rw (h.0, few) (refl, refl)
 
-pub session_long : (out : List ℕ) (a b ca cb o : ℕ) → o ≤ 3 → 27 ≤ length out → frame_reply out (Session a b ca cb o) ≡ Length 27
-session_long out a b ca cb o h r =
-    sym (framed_full out (place 0 (frame (Session a b ca cb o)) out) (Session a b ca cb o) 27 (within_three a b ca cb o h)
-    (length_session a b ca cb o) r refl).0
+pub short_full : (out out' : List ℕ) (kind n : ℕ) → widths kind ≡ 1 ∷ [] → 7 ≤ length out → out' ≡ place 0 (frame_of kind (n ∷ [])) out
+    → Filled out (frame_of kind (n ∷ [])) (Ok 7) out'
+short_full out out' kind n w h p =
+    let full : ltb (length out) 7 ≡ false = le-ltb (length out) 7 h in
+    rw (p, length_short kind n w, full) (refl, refl)
 
-pub session_put : (out : List ℕ) (a b ca cb o : ℕ) → o ≤ 3 → 27 ≤ length out → frame_after out (Session a b ca cb o) ≡ place 0 (frame (Session a b ca cb o)) out
-session_put out a b ca cb o h r =
-    sym (framed_full out (place 0 (frame (Session a b ca cb o)) out) (Session a b ca cb o) 27 (within_three a b ca cb o h)
-    (length_session a b ca cb o) r refl).1
-
--- all of them
-pub ruleset session_rules = (session_outcome, session_outcome_kept, session_few, session_few_kept, session_long, session_put)
+-- a frame of more, where it was asked for
+pub wrote_few : (out : List ℕ) (x : Action) (n : ℕ) (e : Refusal) → outcome_above x ≡ false → length (frame x) ≡ n → (e ≡ RoomShort) × (length out < n)
+    → Wrote out x (Err e) out
+wrote_few out x n e p q h = rw h.0 (framed_few out x n p q h.1)

@@ -1,19 +1,18 @@
-// Frames written: a step's frame and a start's, into lent bytes. Document 01, "Frames and journals".
+// Frames written: a step's frame and a start's, into lent bytes.
 #![tactic(auto)]
 
 ghost use Rattle.meaning.specs.Frames.{Wrote, Began};
 
-use meaning::{Action, Framed, Step};
+use meaning::{Action, Framed, Refusal, Step};
 
 pub mod write;
 
-// A step's frame, LF included, into lent bytes of any length: "refuses with 2 as above, then with 17 if the lent bytes are too few";
+// A step's frame, LF included, into lent bytes of any length: refused for a session's outcome above 3, then where the bytes are too few;
 // otherwise the frame from place 0 and its length. The line number is no part of it.
 pub fn write_step(out: &mut [u8], step: Step) -> Framed
     ensures { Wrote out.old step.action result out.new }
 {
-    let action = step.action;
-    match action {
+    match step.action {
         Action::Write {
             node,
             timestamp,
@@ -32,12 +31,12 @@ pub fn write_step(out: &mut [u8], step: Step) -> Framed
     }
 }
 
-// A start's frame, LF included, into lent bytes of any length: 15 where n is not 2 to 16, as the reader refuses it, then 17.
+// A start's frame, LF included, into lent bytes of any length: refused where n is not 2 to 16, as by the reader, then where the bytes are too few.
 pub fn write_start(out: &mut [u8], n: u8) -> Framed
     ensures { Began out.old n result out.new }
 {
     match n {
         2..=16 => write::start(out, n),
-        _ => Framed::Refused { number: 15 },
+        _ => Err(Refusal::StartWrong),
     }
 }

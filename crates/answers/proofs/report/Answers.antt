@@ -5,4 +5,4 @@ use Rattle.answers.proofs.report.Goals as goal
 
 pub overflow_cast-length : goal.overflow_cast-length
 overflow_cast-length c =
-    omega (arith, length_case c.args.answer c.in-Length.bytes c.in-Length.is c.requires)
+    omega (arith, length_case c.args.answer c.in-Ok.bytes c.in-Ok.is c.requires)

@@ -1,36 +1,25 @@
--- `columns::lower_by` meets its contract: the invariant says that the entries passed are lowered, and that `low` is above none of the column's that were
--- passed and not below its smallest.
-use mathlib.Core.Path.{refl, ◌∙◌}
-use native.Mathlib.Omega.{arith}
-use lib.ListN.{length-set}
-use Rattle.columns.proofs.LowerLaws.{lowered_none, lowered_more, lowered_all, low_none, low_more, low_all}
-use borrow.Author.Rules.{rules}
+-- `columns::lower_by` meets its contract: a row with the smaller of both entries at each place is `lower` of the two.
+use Rattle.std.proofs.Common.{arith}
+use Rattle.std.proofs.lemmas.Grind.{common_steps}
+use Rattle.columns.proofs.LowerLaws.{lower_is, low_most, low_more, low_all}
 use Rattle.columns.proofs.lower_by.Goals as goal
 
 pub loop-i-init : goal.loop-i-init
-loop-i-init c =
-    let row = c.args.row.now in
-    let column = c.args.column.now in
-    (search rules, refl, lowered_none row column, low_none column (omega arith))
+loop-i-init c = record {
+  lowered = λ k h. omega arith;
+  left = λ k h. cc;
+  low = low_most c.args.column.now (omega arith) (λ i. let fits = c.type_inv.column i in omega arith);
+}
 
 pub loop-i-preserved : goal.loop-i-preserved
-loop-i-preserved c =
-    let row = c.args.row.now in
-    let column = c.args.column.now in
-    let i = c.loop-i.i in
-    let inv = c.loop-i.invariant in (
-      omega arith,
-      length-set c.loop-i.row i c.min_of.result ∙ inv.1,
-      lowered_more row column c.requires.0 c.loop-i.row i c.min_of.result (omega arith) inv.2 c.min_of.ensures,
-      low_more column i c.loop-i.low c.min_of-low.result (omega arith) c.min_of-low.ensures inv.3,
-    )
+loop-i-preserved c = record {
+  lowered = λ k h. grind (arith, common_steps);
+  left = λ k h. grind (arith, common_steps);
+  low = low_more c.args.column.now c.loop-i.i c.loop-i.low c.min-low.result (omega arith) c.min-low.ensures c.loop-i.invariant.low;
+}
 
 pub returns : goal.returns
-returns c =
-    let row = c.args.row.now in
-    let column = c.args.column.now in
-    let i = c.loop-i.i in
-    let inv = c.loop-i.invariant in (
-      inv.2 ∙ lowered_all row column c.requires.0 i (omega arith),
-      low_all column i c.loop-i.low (omega arith) (omega arith) inv.3,
-    )
+returns c = (
+  lower_is c.args.row.now c.args.column.now c.loop-i.row c.requires.0 c.loop-i.auto.row (λ k h. c.loop-i.invariant.lowered k (omega arith)),
+  low_all c.args.column.now c.loop-i.i c.loop-i.low (omega arith) (omega arith) c.loop-i.invariant.low,
+)

@@ -1,5 +1,5 @@
 -- `columns::raise_columns` meets its contract: the invariant says that the columns passed are raised, the others as they were.
-use mathlib.Core.Path.{◌≡◌, refl, sym, ap, ap₂, ◌∙◌}
+use mathlib.Core.Path.{◌≡◌, sym, ap, ap₂, ◌∙◌}
 use mathlib.Core.List.{List, []}
 use Prim.Native.Nat.{ℕ, ◌+◌, ◌<◌}
 use native.Mathlib.Numerals.{add-one}
@@ -76,24 +76,19 @@ module _ (t sq : List ℕ) (p q n : ℕ) (r : Raises t p q n sq) where
     whole e = ap (λ (z : List (List ℕ)). put_columns p z t) (raise_first_all (columns_of n p t) (brought n q sq t) k (long_mine ∙ sym e))
 
 pub loop-k-init : goal.loop-k-init
-loop-k-init c =
-    (search rules, refl, none c.args.t.now c.args.sq.now c.args.p c.args.q c.args.n c.requires)
+loop-k-init c = none c.args.t.now c.args.sq.now c.args.p c.args.q (length c.args.sq.now) c.requires
 
 pub raise_column-requires : goal.raise_column-requires
 raise_column-requires c =
-    let same = c.loop-k.invariant.1 in
-    (still c.args.t.now c.args.sq.now c.args.p c.args.q c.args.n c.requires c.loop-k.t same, search rules)
+    (still c.args.t.now c.args.sq.now c.args.p c.args.q (length c.args.sq.now) c.requires c.loop-k.t c.loop-k.auto.t, search rules)
 
 pub loop-k-preserved : goal.loop-k-preserved
 loop-k-preserved c =
-    let inv = c.loop-k.invariant in (
-      omega arith,
-      search rules,
-      more c.args.t.now c.args.sq.now c.args.p c.args.q c.args.n c.requires c.loop-k.k
-          c.loop-k.t c.raise_column.new.t (omega arith) inv.2 c.raise_column.ensures,
-    )
+    more c.args.t.now c.args.sq.now c.args.p c.args.q (length c.args.sq.now) c.requires c.loop-k.k c.loop-k.t c.raise_column.new.t (omega arith)
+    c.loop-k.invariant c.raise_column.ensures
 
 pub returns : goal.returns
 returns c =
-    c.loop-k.invariant.2 ∙
-    whole c.args.t.now c.args.sq.now c.args.p c.args.q c.args.n c.requires c.loop-k.k (omega arith)
+    let most = c.loop-k.auto.k-end in
+    c.loop-k.invariant ∙
+    whole c.args.t.now c.args.sq.now c.args.p c.args.q (length c.args.sq.now) c.requires c.loop-k.k (omega arith)

@@ -1,35 +1,28 @@
 -- `deliveries::lacks` meets its contract: all that is held has room, or what is due is counted.
-use mathlib.Core.Path.{◌≡◌, refl, ap, sym}
-use mathlib.Core.Bool.{false}
-use mathlib.Core.List.{List}
-use Prim.Native.Nat.{ℕ, ◌*◌, ◌≤◌, ◌<◌}
+use mathlib.Core.Path.{ap, sym}
+use Prim.Native.Nat.{ℕ, ◌*◌}
 use native.Mathlib.Omega.{arith}
 use borrow.Author.Tests.{le-ltb}
 use lib.ListN.{length}
 use lib.Dec.{ltb}
-use Rattle.meaning.specs.Rows.{due}
-use Rattle.meaning.specs.Table.{form_of, count, held, log_at, node, Sound}
-use Rattle.deliveries.proofs.LentLaws.{due_few}
+use Rattle.deliveries.specs.Goes.{due_by}
+use Rattle.deliveries.proofs.LentLaws.{due_few, few}
 use Rattle.deliveries.proofs.lacks.Goals as goal
 
-roomy :
-    (t : List ℕ) → Sound t → (p : ℕ) → p < count t → (k : ℕ) → k ≡ held t p → (mark limit room : ℕ) → 4 * k ≤ room →
-    false ≡ ltb room (4 * length (due mark limit (node t p).log))
-roomy t s p h k ek mark limit room g =
-    let a = due_few t s p h (log_at (form_of t) p) k refl ek mark limit in
-    sym (le-ltb room (4 * length (due mark limit (node t p).log)) (omega arith))
+pub overflow_mul-by : goal.overflow_mul-by
+overflow_mul-by c = let f = few c.args.t.now.words.now c.args.by c.requires in omega arith
 
-pub returns-then-held-room : goal.returns-then-held-room
-returns-then-held-room c =
-    roomy c.args.t.now c.requires.0 c.args.p c.requires.1 c.args.held c.requires.2 c.args.mark
-    c.args.limit c.args.room c.if-held-room.true
+pub returns-then-by-room : goal.returns-then-by-room
+returns-then-by-room c =
+    let t = c.args.t.now.words.now in
+    let f = due_few t c.args.by c.requires in
+    sym (le-ltb c.args.room (4 * length (due_by t c.args.by)) (omega arith))
 
 pub overflow_mul-result : goal.overflow_mul-result
 overflow_mul-result c =
-    let few = c.due_of.ensures.1 in
-    let most = c.requires.3 in
+    let f = few c.args.t.now.words.now c.args.by c.requires in
+    let d = c.due_of.ensures.1 in
     omega arith
 
 pub returns : goal.returns
-returns c =
-    ap (λ (m : ℕ). ltb c.args.room (4 * m)) c.due_of.ensures.0
+returns c = ap (λ (m : ℕ). ltb c.args.room (4 * m)) c.due_of.ensures.0

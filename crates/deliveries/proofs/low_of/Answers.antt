@@ -6,8 +6,9 @@ use mathlib.Core.List.{List}
 use lib.ListN.{take, drop, get_or, set}
 use lib.Seq.{set-get_or}
 use Rattle.meaning.specs.Rows.{least}
-use Rattle.meaning.specs.Table.{form_of, count, node, part, summary_at, Sound}
+use Rattle.meaning.specs.Table.{form_of, count, node, part, summary_at}
 use Rattle.meaning.proofs.PlaceLaws.{part_lent, inside_lent, get_d_part}
+use Rattle.meaning.proofs.TableLaws.{sound_facts}
 use Rattle.deliveries.proofs.low_of.Goals as goal
 
 lent : (t : List ℕ) (p at n : ℕ) → at ≡ summary_at (form_of t) p → n ≡ count t → take ((at + n) - at) (drop at t) ≡ (node t p).summary
@@ -22,22 +23,35 @@ own t at n h =
     in
     ap (set (take ((at + n) - at) (drop at t)) 0) (sym e) ∙ set-get_or (take ((at + n) - at) (drop at t)) 0 0
 
+pub summary_at-at-requires : goal.summary_at-at-requires
+summary_at-at-requires c =
+    let s = sound_facts c.args.t.now.words.now c.args.t.now.is_sound in
+    (s.long, omega (arith, s.high, c.requires.0))
+
+pub overflow_add-end : goal.overflow_add-end
+overflow_add-end c =
+    let s = sound_facts c.args.t.now.words.now c.args.t.now.is_sound in
+    omega (arith, s.high, c.summary_at-at.ensures.1, c.requires.1)
+
+pub slice_bounds-least_with-end : goal.slice_bounds-least_with-end
+slice_bounds-least_with-end c =
+    let s = sound_facts c.args.t.now.words.now c.args.t.now.is_sound in
+    omega (arith, s.high, c.summary_at-at.ensures.1, c.requires.1)
+
 pub least_with-low-requires : goal.least_with-low-requires
 least_with-low-requires c =
-    let s : Sound c.args.t.now = c.requires.0 in
+    let s = sound_facts c.args.t.now.words.now c.args.t.now.is_sound in
     let l = s.long in
     let a = s.low in
     let b = s.high in
-    let f = c.requires.2 in
-    let h = c.requires.1 in
-    let e = c.summary_at-at.ensures.0 in
-    inside_lent c.summary_at-at.result _ c.args.t.now 0 (omega arith) (omega arith)
+    let e = c.summary_at-at.ensures.1 in
+    inside_lent c.summary_at-at.result _ c.args.t.now.words.now 0 (omega arith) (omega arith)
 
 pub returns : goal.returns
 returns c =
-    let s : Sound c.args.t.now = c.requires.0 in
+    let t = c.args.t.now.words.now in
+    let s = sound_facts t c.args.t.now.is_sound in
     let a = s.low in
-    let f = c.requires.2 in
-    c.least_with-low.ensures.0 ∙ ap least
-    (own c.args.t.now c.summary_at-at.result c.args.n (omega arith) ∙
-    lent c.args.t.now c.args.p c.summary_at-at.result c.args.n c.summary_at-at.ensures.0 c.requires.2)
+    let at = c.summary_at-at.result in
+    c.least_with-low.ensures.0 ∙
+    ap least (own t at c.args.n (omega arith) ∙ lent t c.args.p at c.args.n c.summary_at-at.ensures.0 c.requires.1)

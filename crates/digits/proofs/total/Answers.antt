@@ -1,37 +1,24 @@
 -- `total` meets its contract: the loop's invariant is what the bits seen tell of the characters passed, and the sum of their bytes.
-use Rattle.std.proofs.Common.{arith}
-use Rattle.digits.proofs.DigitLaws.{seen_none, seen_more, seen_all, seen_stray, sum-none, sum_more, sum-all, sum_stray, sum_right}
+use Rattle.std.proofs.Common.{◌∙◌, arith}
+use Rattle.digits.proofs.DigitLaws.{seen_none, seen_more, sum-none, sum_more, told_of}
 use Rattle.digits.proofs.total.Goals as goal
 
 pub loop-k-init : goal.loop-k-init
 loop-k-init c =
     let s = c.args.s.now in
-    (omega arith, omega arith, seen_none s, sum-none s)
-
-pub loop-k-smaller : goal.loop-k-smaller
-loop-k-smaller c = omega arith
+    (seen_none s, sum-none s)
 
 pub loop-k-preserved : goal.loop-k-preserved
 loop-k-preserved c =
     let s = c.args.s.now in
     let loop = c.loop-k in
-    let v = c.digit_value-v in
-    let w = c.weighed in
-    let seen = seen_more s loop.seen loop.k v.result (omega arith) v.ensures loop.invariant.2 in
-    let sum = sum_more s loop.k v.result w.result loop.sum (omega arith) v.ensures w.ensures loop.invariant.3 in
-    (omega arith, omega (arith, c.wrapping_add_u8-sum.ensures), seen, sum c.wrapping_add_u8-sum.result c.wrapping_add_u8-sum.ensures.value)
-
-pub returns-then-seen-gt15 : goal.returns-then-seen-gt15
-returns-then-seen-gt15 c =
-    let s = c.args.s.now in
-    sum_stray s (seen_stray s c.loop-k.seen c.loop-k.k c.loop-k.invariant.2 c.if-seen-gt15.true)
-
-pub overflow_cast-result : goal.overflow_cast-result
-overflow_cast-result c = omega (arith, c.loop-k.invariant.1)
+    let v = c.digit_value in
+    let more = c.then-pass in (
+      rw more.ensures.seen (seen_more s loop.pass.seen loop.k v.result c.loop-k-test.true v.ensures loop.invariant.0),
+      sum_more s loop.k v.result loop.pass.sum c.loop-k-test.true v.ensures loop.invariant.1 more.result.sum more.ensures.sum,
+    )
 
 pub returns : goal.returns
 returns c =
-    let s = c.args.s.now in
     let loop = c.loop-k in
-    let all = seen_all s loop.seen loop.k (omega arith) loop.invariant.2 c.if-seen-gt15.false in
-    sum_right s loop.sum all (sum-all s loop.k loop.sum (omega arith) c.requires loop.invariant.3)
+    c.told.ensures ∙ told_of c.args.s.now loop.pass.seen loop.pass.sum loop.k (omega arith) c.requires loop.invariant.0 loop.invariant.1

@@ -1,18 +1,11 @@
 -- `entry` meets its contract: the row has n entries, and no more.
+use mathlib.Core.Path.{ap, ◌∙◌}
 use native.Mathlib.Omega.{arith}
-use Rattle.entries.proofs.EntryLaws.{entry_in, entry_out}
+use Rattle.std.specs.Option.{unwrap_or}
+use Rattle.entries.proofs.EntryLaws.{row_is}
 use Rattle.entries.proofs.entry.Goals as goal
 
-pub count_of-requires : goal.count_of-requires
-count_of-requires c = c.requires.0.long
-
-pub bounds-t-at : goal.bounds-t-at
-bounds-t-at c =
-    omega (arith, c.requires.0.high, c.requires.0.long, c.requires.1, c.if-o-count_of.true, c.count_of.ensures)
-
-pub returns-then-o-count_of : goal.returns-then-o-count_of
-returns-then-o-count_of c = entry_in _ _ _ _ (omega (arith, c.if-o-count_of.true, c.count_of.ensures))
-
-pub returns-else-o-count_of : goal.returns-else-o-count_of
-returns-else-o-count_of c =
-    entry_out _ _ _ _ (omega (arith, c.requires.0.high, c.requires.0.long, c.requires.1)) (omega (arith, c.if-o-count_of.false, c.count_of.ensures))
+pub returns : goal.returns
+returns c =
+    c.unwrap_or.ensures ∙ ap (λ o. unwrap_or o 0) c.copied.ensures ∙ c.get.ensures.lookup.4 (omega arith) 0 ∙
+    row_is c.args.t.now c.args.at _ _ c.args.o c.count_of-n.ensures

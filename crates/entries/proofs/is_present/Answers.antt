@@ -4,12 +4,12 @@ use Rattle.meaning.proofs.TableLaws.{sound_facts}
 use Rattle.entries.proofs.EntryLaws.{unsound_absent, sound-present}
 use Rattle.entries.proofs.is_present.Goals as goal
 
-pub returns-then-not-is_sound : goal.returns-then-not-is_sound
-returns-then-not-is_sound c = unsound_absent _ _ (sym c.is_sound.ensures ∙ c.if-not-is_sound.true)
-
 pub count_of-requires : goal.count_of-requires
-count_of-requires c = (sound_facts _ (sym c.is_sound.ensures ∙ c.if-not-is_sound.false)).long
+count_of-requires c = (sound_facts _ (sym c.is_sound.ensures ∙ c.if-is_sound.true)).long
 
-pub returns : goal.returns
-returns c =
-    sound-present _ _ _ (sym c.is_sound.ensures ∙ c.if-not-is_sound.false) c.count_of.ensures
+pub returns-then-is_sound : goal.returns-then-is_sound
+returns-then-is_sound c =
+    sound-present _ _ _ (sym c.is_sound.ensures ∙ c.if-is_sound.true) c.count_of.ensures
+
+pub returns-else-is_sound : goal.returns-else-is_sound
+returns-else-is_sound c = c.if-is_sound.false ∙ unsound_absent _ _ (sym c.is_sound.ensures ∙ c.if-is_sound.false)

@@ -1,36 +1,27 @@
--- `read_to`: each answer's case, by the tests of its bits.
+-- `read_to`: each answer's case, by the tests that the code makes of it.
+use mathlib.Core.Path.{sym, ◌∙◌}
 use native.Mathlib.Omega.{arith}
-use mathlib.Core.Path.{◌≡◌}
-use mathlib.Core.Bool.{true, false}
-use Rattle.input.proofs.ReadingLaws.{counts, to_again, to_failed, to_end, to_more, to_full}
+use Rattle.input.proofs.ReadingLaws.{to_end, to_more, to_full, to_again, to_failed}
 use Rattle.input.proofs.read_to.Goals as goal
 
-pub returns-then-interrupted : goal.returns-then-interrupted
-returns-then-interrupted c =
-    let e : c.args.interrupted ≡ true = c.if-interrupted.true in
-    rw e (to_again c.args.lent c.args.at c.args.got c.ranges.got c.if-got-lt0.true)
+pub returns-in-Ok-eq0 : goal.returns-in-Ok-eq0
+returns-in-Ok-eq0 c =
+    let zero = rw c.in-Ok-eq0.is at c.in-Ok-eq0.field-0-test in
+    rw (c.in-Ok-eq0.is, zero) (to_end c.args.lent c.args.at)
 
-pub returns-then-got-lt0 : goal.returns-then-got-lt0
-returns-then-got-lt0 c =
-    let e : c.args.interrupted ≡ false = c.if-interrupted.false in
-    rw e (to_failed c.args.lent c.args.at c.args.got c.ranges.got c.if-got-lt0.true)
+pub returns-in-Ok : goal.returns-in-Ok
+returns-in-Ok c =
+    let some = rw c.in-Ok.is at c.in-Ok.count-test.1 in
+    rw c.in-Ok.is (to_more c.args.lent c.args.at c.in-Ok.count some (omega arith))
 
-pub returns-then-got-eq0 : goal.returns-then-got-eq0
-returns-then-got-eq0 c =
-    to_end c.args.lent c.args.at c.args.interrupted c.args.got c.ranges.got c.if-got-eq0.true
+pub returns-in-Ok-2 : goal.returns-in-Ok-2
+returns-in-Ok-2 c =
+    let some = rw c.in-Ok.is at c.in-Ok.count-test.1 in
+    rw c.in-Ok.is (to_full c.args.lent c.args.at c.in-Ok.count some (omega arith))
 
-pub overflow_cast-count : goal.overflow_cast-count
-overflow_cast-count c =
-    counts c.args.got c.ranges.got c.if-got-lt0.false
+pub returns-in-Interrupted : goal.returns-in-Interrupted
+returns-in-Interrupted c = rw c.in-Err.is (to_again c.args.lent c.args.at c.in-Err.e (sym c.in-Interrupted.ensures))
 
-pub returns-then-count-lent : goal.returns-then-count-lent
-returns-then-count-lent c =
-    to_more c.args.lent c.args.at c.args.interrupted c.args.got c.ranges.got c.if-got-lt0.false c.if-got-eq0.false (omega arith)
-
-pub returns-else-count-lent : goal.returns-else-count-lent
-returns-else-count-lent c =
-    to_full c.args.lent c.args.at c.args.interrupted c.args.got c.ranges.got c.if-got-lt0.false c.if-got-eq0.false (omega arith)
-
-pub returns-else-at-lent : goal.returns-else-at-lent
-returns-else-at-lent c =
-    to_full c.args.lent c.args.at c.args.interrupted c.args.got c.ranges.got c.if-got-lt0.false c.if-got-eq0.false (omega arith)
+pub returns-in_default : goal.returns-in_default
+returns-in_default c =
+    rw c.in-Err.is (to_failed c.args.lent c.args.at c.in-Err.e (λ h. c.in_default.not-Interrupted (c.kind.ensures ∙ h)))

@@ -7,8 +7,8 @@ use Rattle.finder.proofs.Finding.{line_facts, unended_facts}
 use Rattle.journal.proofs.Passing.{next_over, next_unended, next_line}
 use Rattle.journal.proofs.next_in.Goals as goal
 
-pub overflow_sub-left : goal.overflow_sub-left
-overflow_sub-left c =
+pub overflow_sub-result : goal.overflow_sub-result
+overflow_sub-result c =
     let a = c.args in
     let f = unended_facts a.s.now a.at (sym c.in-Unended.ensures) in
     omega (arith, leb-false (length a.s.now) a.at f.0)

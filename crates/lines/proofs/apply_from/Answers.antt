@@ -1,126 +1,73 @@
--- `apply_from`: at every line, what is left gives the answer and the table of the whole (`Reached`). Each line passes at
--- least its LF, in a turn or by the reader.
-use mathlib.Core.Path.{sym}
+-- `apply_from`: at every line, what is left gives the answer and the table of the whole (`Reached`).
+use mathlib.Core.Path.{sym, ap, ◌∙◌}
+use Rattle.std.specs.Prelude.{Option, Some, Ok}
+use Rattle.meaning.specs.declared.NextLine.{NextLine}
 use mathlib.Core.Bool.{false}
 use Prim.Native.Nat.{◌+◌}
 use native.Mathlib.Omega.{arith}
 use lib.ListN.{length}
 use borrow.Author.Tests.{leb-false}
+use borrow.Author.Rules.{rules}
+use Rattle.meaning.proofs.TableLaws.{sound_facts}
 use Rattle.meaning.proofs.JournalLaws.{steps_begin, steps_refused}
 use Rattle.journal.proofs.Passing.{begun, acted, refused_inside}
-use Rattle.steplines.proofs.StepLineLaws.{unsure}
-use Rattle.turns.proofs.TurnLaws.{taken}
 use Rattle.lines.proofs.Applying.{reached_start, reached_step, reached_turn, reached_kept, reached_bad, reached_end}
 use Rattle.lines.proofs.apply_from.Goals as goal
 
-pub loop-steps-init : goal.loop-steps-init
-loop-steps-init c =
-    reached_start c.args.s.now c.args.from c.args.first c.args.t.now c.requires.0 c.requires.2
+pub loop-x-init : goal.loop-x-init
+loop-x-init c =
+    let t = c.args.t.now in
+    (reached_start c.args.s.now c.args.from c.args.first t.words.now (sound_facts t.words.now t.is_sound) c.requires.1, search rules)
 
-pub due_at-due-requires : goal.due_at-due-requires
-due_at-due-requires c = c.loop-steps.invariant.within
+pub loop-x-smaller-in-Some : goal.loop-x-smaller-in-Some
+loop-x-smaller-in-Some c =
+    let y = reached_turn c.loop-x.invariant.0 c.in-Some.x c.in-Some.ensures.taken c.take_turn.new.t.is_sound in
+    omega (arith, y.1, y.2)
 
-pub turn-told-requires : goal.turn-told-requires
-turn-told-requires c =
-    let l = c.loop-steps in
-    (l.invariant.is_sound, l.invariant.within, c.due_at-due.ensures)
+pub loop-x-preserved-in-Some : goal.loop-x-preserved-in-Some
+loop-x-preserved-in-Some c =
+    let y = reached_turn c.loop-x.invariant.0 c.in-Some.x c.in-Some.ensures.taken c.take_turn.new.t.is_sound in
+    (rw c.count-refused.ensures y.0, search rules)
 
-pub overflow_add-steps : goal.overflow_add-steps
-overflow_add-steps c =
-    let l = c.loop-steps in
-    omega (arith, l.invariant.passed, l.invariant.within)
-
-pub overflow_add-refused : goal.overflow_add-refused
-overflow_add-refused c =
-    let l = c.loop-steps in
-    let y = taken c.args.s.now l.stop c.due_at-due.result c.due_at-due.ensures _ c.turn-told.result _ c.turn-told.ensures
-    c.if-told-lt-UNSURE.true in
-    omega (arith, l.invariant.few, l.invariant.passed, y.room)
-
-pub overflow_add-stop : goal.overflow_add-stop
-overflow_add-stop c =
-    let l = c.loop-steps in
-    let y = taken c.args.s.now l.stop c.due_at-due.result c.due_at-due.ensures _ c.turn-told.result _ c.turn-told.ensures
-    c.if-told-lt-UNSURE.true in
-    omega (arith, y.room)
-
-pub overflow_add-stop-then-told-lt-UNSURE : goal.overflow_add-stop-then-told-lt-UNSURE
-overflow_add-stop-then-told-lt-UNSURE c =
-    let l = c.loop-steps in
-    let y = taken c.args.s.now l.stop c.due_at-due.result c.due_at-due.ensures _ c.turn-told.result _ c.turn-told.ensures
-    c.if-told-lt-UNSURE.true in
-    omega (arith, y.room)
-
-pub loop-steps-smaller-then-told-lt-UNSURE : goal.loop-steps-smaller-then-told-lt-UNSURE
-loop-steps-smaller-then-told-lt-UNSURE c =
-    let l = c.loop-steps in
-    let y = taken c.args.s.now l.stop c.due_at-due.result c.due_at-due.ensures _ c.turn-told.result _ c.turn-told.ensures
-    c.if-told-lt-UNSURE.true in
-    omega (arith, y.room)
-
-pub loop-steps-preserved-then-told-lt-UNSURE : goal.loop-steps-preserved-then-told-lt-UNSURE
-loop-steps-preserved-then-told-lt-UNSURE c =
-    let l = c.loop-steps in
-    let y = taken c.args.s.now l.stop c.due_at-due.result c.due_at-due.ensures _ c.turn-told.result _ c.turn-told.ensures
-    c.if-told-lt-UNSURE.true in
-    reached_turn l.invariant y
-
-pub overflow_add-first : goal.overflow_add-first
-overflow_add-first c =
-    let l = c.loop-steps in
-    omega (arith, l.invariant.passed, l.invariant.within, c.requires.1)
-
-pub returns-in-Begin : goal.returns-in-Begin
-returns-in-Begin c =
-    let l = c.loop-steps in
-    let kept = reached_kept l.invariant (unsure c.turn-told.ensures c.if-told-lt-UNSURE.false) in
-    let e = sym c.in-Begin.ensures in
+pub returns-in-Ok-Some-Begin-clause-applied : goal.returns-in-Ok-Some-Begin-clause-applied
+returns-in-Ok-Some-Begin-clause-applied c =
+    let l = c.loop-x in
+    let kept = reached_kept l.invariant.0 c.in_default.ensures.taken in
+    let x = c.in-Ok-Some-Begin in
+    let e = sym x.ensures ∙ ap (λ (o : Option NextLine). Ok o) (x.field-0-is ∙ ap (λ (y : NextLine). Some y) x.field-0-0-is) in
     let p = begun false c.args.s.now l.stop (c.args.first + l.steps) e in
-    rw c.halted.ensures (reached_bad kept (omega arith) (steps_begin _ c.args.s.now l.stop (c.args.first + l.steps) e))
+    rw (c.halted.ensures, c.into.ensures)
+    (reached_bad kept _ (omega arith) (steps_begin _ c.args.s.now l.stop (c.args.first + l.steps) e))
 
-pub overflow_add-steps-in-Act : goal.overflow_add-steps-in-Act
-overflow_add-steps-in-Act c =
-    let l = c.loop-steps in
-    omega (arith, l.invariant.passed, l.invariant.within)
-
-pub step-refused-requires : goal.step-refused-requires
-step-refused-requires c =
-    let l = c.loop-steps in
-    let kept = reached_kept l.invariant (unsure c.turn-told.ensures c.if-told-lt-UNSURE.false) in
-    kept.is_sound
-
-pub overflow_add-refused-in-Act : goal.overflow_add-refused-in-Act
-overflow_add-refused-in-Act c =
-    let l = c.loop-steps in
-    let p = acted false c.args.s.now l.stop (c.args.first + l.steps) (sym c.in-Act.ensures) in
-    let one = c.step-refused.ensures.one in
-    omega (arith, l.invariant.few, l.invariant.passed, one)
-
-pub loop-steps-smaller : goal.loop-steps-smaller
-loop-steps-smaller c =
-    let l = c.loop-steps in
-    let p = acted false c.args.s.now l.stop (c.args.first + l.steps) (sym c.in-Act.ensures) in
-    omega arith
-
-pub loop-steps-preserved : goal.loop-steps-preserved
-loop-steps-preserved c =
-    let l = c.loop-steps in
-    let kept = reached_kept l.invariant (unsure c.turn-told.ensures c.if-told-lt-UNSURE.false) in
-    let e = sym c.in-Act.ensures in
+pub loop-x-smaller : goal.loop-x-smaller
+loop-x-smaller c =
+    let l = c.loop-x in
+    let x = c.in-Ok-Some-Act in
+    let e = sym x.ensures ∙ ap (λ (o : Option NextLine). Ok o) (x.field-0-is ∙ ap (λ (y : NextLine). Some y) x.field-0-0-is) in
     let p = acted false c.args.s.now l.stop (c.args.first + l.steps) e in
-    reached_step kept e p.start p.within c.step-refused.ensures
+    omega (arith, p.start, p.within)
 
-pub returns-in-Refused : goal.returns-in-Refused
-returns-in-Refused c =
-    let l = c.loop-steps in
-    let kept = reached_kept l.invariant (unsure c.turn-told.ensures c.if-told-lt-UNSURE.false) in
-    let t = c.args.s.now in
-    let e = sym c.in-Refused.ensures in
-    let inside = leb-false (length t) l.stop (refused_inside false t l.stop (c.args.first + l.steps) e) in
-    rw c.halted-in-Refused.ensures (reached_bad kept inside (steps_refused _ t l.stop (c.args.first + l.steps) e))
+pub loop-x-preserved : goal.loop-x-preserved
+loop-x-preserved c =
+    let l = c.loop-x in
+    let kept = reached_kept l.invariant.0 c.in_default.ensures.taken in
+    let x = c.in-Ok-Some-Act in
+    let e = sym x.ensures ∙ ap (λ (o : Option NextLine). Ok o) (x.field-0-is ∙ ap (λ (y : NextLine). Some y) x.field-0-0-is) in
+    let p = acted false c.args.s.now l.stop (c.args.first + l.steps) e in
+    let y = reached_step kept e p.start p.within c.step.new.t.is_sound c.step.ensures.stepped in
+    (rw c.count-refused-in-Ok-Some-Act.ensures y, search rules)
 
-pub returns-in-End : goal.returns-in-End
-returns-in-End c =
-    let l = c.loop-steps in
-    let kept = reached_kept l.invariant (unsure c.turn-told.ensures c.if-told-lt-UNSURE.false) in
-    rw c.halted-in-End.ensures (reached_end kept (sym c.in-End.ensures))
+pub returns-in-Ok-None-clause-applied : goal.returns-in-Ok-None-clause-applied
+returns-in-Ok-None-clause-applied c =
+    let l = c.loop-x in
+    let kept = reached_kept l.invariant.0 c.in_default.ensures.taken in
+    rw c.halted-in-Ok-None.ensures (reached_end kept (sym c.in-Ok-None.ensures ∙ ap (λ (o : Option NextLine). Ok o) c.in-Ok-None.field-0-is))
+
+pub returns-in-Err-clause-applied : goal.returns-in-Err-clause-applied
+returns-in-Err-clause-applied c =
+    let l = c.loop-x in
+    let kept = reached_kept l.invariant.0 c.in_default.ensures.taken in
+    let s = c.args.s.now in
+    let e = sym c.in-Err.ensures in
+    let inside = leb-false (length s) l.stop (refused_inside false s l.stop (c.args.first + l.steps) e) in
+    rw c.halted-in-Err.ensures (reached_bad kept c.in-Err.fault inside (steps_refused _ s l.stop (c.args.first + l.steps) e))

@@ -11,7 +11,6 @@ use Rattle.meaning.proofs.PlaceLaws.{place_none, place-append, part_away}
 use Rattle.meaning.proofs.RowLaws.{newer-row, newer-none, newer_grows, words-none, words_append, length-words, length-newer, length-records, all_row}
 use Rattle.meaning.proofs.TableLaws.{origin_below}
 use Rattle.logs.specs.Carry.{log_record, Carries, CarriesAll, Puts}
-use borrow.Author.Rules.{rules}
 use Rattle.logs.proofs.carry.Invariants.{carried_to, sent}
 use Rattle.logs.proofs.carry.Goals as goal
 
@@ -83,53 +82,53 @@ none s from to t = (
       place_none to t),
 )
 
-pub loop-i-init : goal.loop-i-init
-loop-i-init c =
-    let n = none c.args.summary.now c.args.from c.args.to c.args.t.now in (search rules, refl, n.0, n.1)
+pub loop-row-init : goal.loop-row-init
+loop-row-init c =
+    let n = none c.args.summary.now c.args.from c.args.to c.args.t.now in (refl, n.0, n.1)
 
-pub overflow_mul-k : goal.overflow_mul-k
-overflow_mul-k c =
-    let f = few c.args.summary.now c.args.from c.loop-i.i c.args.t.now in
+pub overflow_mul-carried : goal.overflow_mul-carried
+overflow_mul-carried c =
+    let f = few c.args.summary.now c.args.from c.loop-row.row c.args.t.now in
     let p = c.requires.below in
     omega arith
 
 pub overflow_add-to : goal.overflow_add-to
 overflow_add-to c =
     let f =
-    newer_grows c.args.summary.now (part c.args.from (4 * log_most) c.args.t.now) c.loop-i.i c.args.held (omega arith)
+    newer_grows c.args.summary.now (part c.args.from (4 * log_most) c.args.t.now) c.loop-row.row c.args.held (omega arith)
     in
     let p = c.requires.fits in
     omega arith
 
-pub carry_one-k-requires : goal.carry_one-k-requires
-carry_one-k-requires c =
-    ready c.args.t.now c.args.from c.args.held c.args.to c.args.summary.now c.requires c.loop-i.i
-    (omega arith) c.loop-i.t c.loop-i.k c.loop-i.invariant.3 c.loop-i.invariant.1 c.loop-i.invariant.2
+pub carry_one-carried-requires : goal.carry_one-carried-requires
+carry_one-carried-requires c =
+    ready c.args.t.now c.args.from c.args.held c.args.to c.args.summary.now c.requires c.loop-row.row
+    (omega arith) c.loop-row.t c.loop-row.carried c.loop-row.invariant.2 c.loop-row.invariant.0 c.loop-row.invariant.1
 
-pub overflow_add-k : goal.overflow_add-k
-overflow_add-k c =
+pub overflow_add-carried : goal.overflow_add-carried
+overflow_add-carried c =
     let m =
-    more c.args.t.now c.args.from c.args.held c.args.to c.args.summary.now c.requires c.loop-i.i
-    (omega arith) c.carry_one-k.ensures c.loop-i.invariant.3 c.loop-i.invariant.2
+    more c.args.t.now c.args.from c.args.held c.args.to c.args.summary.now c.requires c.loop-row.row
+    (omega arith) c.carry_one-carried.ensures c.loop-row.invariant.2 c.loop-row.invariant.1
     in
     let e = m.0 in
-    let f = few c.args.summary.now c.args.from (c.loop-i.i + 1) c.args.t.now in
+    let f = few c.args.summary.now c.args.from (c.loop-row.row + 1) c.args.t.now in
     let p = c.requires.below in
     omega arith
 
-pub loop-i-preserved : goal.loop-i-preserved
-loop-i-preserved c =
+pub loop-row-preserved : goal.loop-row-preserved
+loop-row-preserved c =
     let m =
-    more c.args.t.now c.args.from c.args.held c.args.to c.args.summary.now c.requires c.loop-i.i
-    (omega arith) c.carry_one-k.ensures c.loop-i.invariant.3 c.loop-i.invariant.2
+    more c.args.t.now c.args.from c.args.held c.args.to c.args.summary.now c.requires c.loop-row.row
+    (omega arith) c.carry_one-carried.ensures c.loop-row.invariant.2 c.loop-row.invariant.1
     in
-    (omega arith, c.carry_one-k.auto.t ∙ c.loop-i.invariant.1, m.0, m.1)
+    (c.carry_one-carried.auto.t ∙ c.loop-row.invariant.0, m.0, m.1)
 
 pub returns : goal.returns
 returns c =
-    let e : c.loop-i.i ≡ c.args.held = omega arith in
+    let e : c.loop-row.row ≡ c.args.held = omega arith in
     record {
-      many = c.loop-i.invariant.2 ∙ ap (λ (m : ℕ). length (sent c.args.summary.now c.args.from m c.args.t.now)) e;
+      many = c.loop-row.invariant.1 ∙ ap (λ (m : ℕ). length (sent c.args.summary.now c.args.from m c.args.t.now)) e;
       leaves =
-          c.loop-i.invariant.3 ∙ ap (λ (m : ℕ). carried_to c.args.summary.now c.args.from c.args.to m c.args.t.now) e;
+          c.loop-row.invariant.2 ∙ ap (λ (m : ℕ). carried_to c.args.summary.now c.args.from c.args.to m c.args.t.now) e;
     }

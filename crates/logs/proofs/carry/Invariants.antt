@@ -1,7 +1,7 @@
 -- `logs::carry` meets its contract: the invariant says that the newer records of the rows passed stand at `to` and the rest is as it was.
 use mathlib.Core.Path.{◌≡◌}
 use mathlib.Core.List.{List}
-use Prim.Native.Nat.{ℕ, ◌-◌, ◌≤◌}
+use Prim.Native.Nat.{ℕ}
 use lib.ListN.{length}
 use Rattle.meaning.specs.declared.Record.{Record}
 use Rattle.meaning.specs.Rows.{newer, words}
@@ -16,9 +16,6 @@ sent s from i t = newer s (log_records from i t)
 abbrev pub carried_to : List ℕ → ℕ → ℕ → ℕ → List ℕ → List ℕ
 carried_to s from to i t = place to (words (sent s from i t)) t
 
-abbrev pub invariant-loop-i : goal.invariant-loop-i
-invariant-loop-i l = (l.i ≤ l.held) × (length l.t ≡ length l.initial.t) × (l.k ≡ length (sent l.summary l.from l.i l.initial.t)) ×
-    (l.t ≡ carried_to l.summary l.from l.to l.i l.initial.t)
-
-abbrev pub decreases-loop-i : goal.decreases-loop-i
-decreases-loop-i l = l.held - l.i
+abbrev pub invariant-loop-row : goal.invariant-loop-row
+invariant-loop-row l = (length l.t ≡ length l.initial.t) × (l.carried ≡ length (sent l.summary l.from l.row l.initial.t)) ×
+    (l.t ≡ carried_to l.summary l.from l.to l.row l.initial.t)

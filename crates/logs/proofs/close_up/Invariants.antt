@@ -1,24 +1,23 @@
--- `logs::close_up` meets its contract: the invariant says that the rows passed are closed up and the rest is as it was. The first
--- row is free from the start, so that what is left of the rows passed is fewer than they are.
-use mathlib.Core.Path.{◌≡◌}
-use mathlib.Core.Bool.{Bool}
-use mathlib.Core.List.{List}
-use Prim.Native.Nat.{ℕ, ◌-◌, ◌≤◌, ◌<◌}
-use lib.ListN.{length}
+-- `logs::close_up` meets its contract: the invariant says that the rows passed are closed up by each rule that the test follows, and the rest is as it was.
+-- The first row is free from the start, so that what is left of the rows passed is fewer than they are.
+use Rattle.std.proofs.Common.{◌≡◌, Bool, List, ℕ, ◌*◌, ◌≤◌, ◌<◌, length, get_or}
 use Rattle.meaning.specs.declared.Record.{Record}
 use Rattle.meaning.specs.Rows.{records, words}
 use Rattle.meaning.specs.Table.{place}
-use Rattle.logs.specs.Carry.{goes, stay}
+use Rattle.records.specs.Tests.{rows, Follows}
+use Rattle.logs.specs.Carry.{stay, Closes}
 use Rattle.logs.proofs.close_up.Given as goal
 
 -- the log with its first i rows closed up
 abbrev pub closed : (Record → Bool) → ℕ → List ℕ → List ℕ
 closed leaves i w = place 0 (words (stay leaves (records i w))) w
 
-abbrev pub invariant-loop-i : goal.invariant-loop-i
-invariant-loop-i l = (0 < l.i) × (l.i ≤ l.rows) × (length l.tail ≡ length l.initial.tail) ×
-    (l.k ≡ length (stay (goes l.barred l.bars l.limit) (records l.i l.initial.tail))) ×
-    (l.tail ≡ closed (goes l.barred l.bars l.limit) l.i l.initial.tail)
-
-abbrev pub decreases-loop-i : goal.decreases-loop-i
-decreases-loop-i l = l.rows - l.i
+abbrev pub invariant-loop-row : goal.invariant-loop-row
+invariant-loop-row g l = record {
+  free : l.kept < l.row;
+  few : l.kept ≤ rows l.initial.tail;
+  long : length l.tail ≡ length l.initial.tail;
+  rest : (m : ℕ) → 4 * l.row ≤ m → get_or l.tail m 0 ≡ get_or l.initial.tail m 0;
+  done : (rule : Record → Bool) → Follows (λ r b. goal.F-post g l.goes r b) rule l.initial.tail → Closes rule l.initial.tail →
+      (l.kept ≡ length (stay rule (records l.row l.initial.tail))) × (l.tail ≡ closed rule l.row l.initial.tail);
+}

@@ -1,12 +1,11 @@
--- `logs::first_leaving` meets its contract: the invariant is that all records of the rows passed stay.
-use mathlib.Core.Path.{◌≡◌}
-use Prim.Native.Nat.{◌-◌, ◌≤◌}
+-- `logs::first_leaving` meets its contract: the invariant is that all records of the rows passed stay, by each rule that the test follows.
+use Rattle.std.proofs.Common.{◌≡◌, Bool}
+use Rattle.meaning.specs.declared.Record.{Record}
 use Rattle.meaning.specs.Rows.{records}
-use Rattle.logs.specs.Carry.{goes, stay}
+use Rattle.records.specs.Tests.{Follows}
+use Rattle.logs.specs.Carry.{stay}
 use Rattle.logs.proofs.first_leaving.Given as goal
 
 abbrev pub invariant-loop-row : goal.invariant-loop-row
-invariant-loop-row l = (l.row ≤ l.held) × (stay (goes l.barred l.bars l.limit) (records l.row l.log) ≡ records l.row l.log)
-
-abbrev pub decreases-loop-row : goal.decreases-loop-row
-decreases-loop-row l = l.held - l.row
+invariant-loop-row g l =
+    (rule : Record → Bool) → Follows (λ r b. goal.F-post g l.goes r b) rule l.log → stay rule (records l.row l.log) ≡ records l.row l.log

@@ -7,14 +7,17 @@ use native.Mathlib.Nat.{add-zero}
 use mathlib.Core.List.{List, ◌++◌}
 use lib.ListN.{length, get_or, take, drop, length-append}
 use Rattle.meaning.specs.declared.Record.{Record}
-use Rattle.meaning.specs.Rows.{all, record_at, records, words}
-use Rattle.meaning.specs.Table.{held, node, part, place, log_most, record_sound}
+use Rattle.meaning.specs.Rows.{record_at, records, words}
+use Rattle.meaning.specs.Table.{held, node, part, place, log_most}
+use Rattle.meaning.specs.Steps.{leaving}
 use Rattle.meaning.proofs.PlaceLaws.{mid_place, place_inner, place-append, place-part, length-place, length_part, get_d_part}
 use Rattle.meaning.proofs.PutLaws.{words-records, part-part}
-use Rattle.meaning.proofs.RowLaws.{and_right, all_append, length-keep, length-words, length-records, words_append, record_at_agree}
-use Rattle.logs.specs.Carry.{goes, stay, AllBarred, FirstLeaving, Closes}
+use Rattle.meaning.proofs.RowLaws.{length-keep, length-words, length-records, words_append, record_at_agree}
+use Rattle.records.specs.Tests.{rows, all_records, Askable, Follows}
+use Rattle.logs.specs.Carry.{Puts, stay, FirstLeaving, Closes}
 use Rattle.logs.proofs.MoveLaws.{records_from, stay_from}
-use Rattle.purges.specs.Dropped.{log_from, log_of, Drops}
+use Rattle.purges.specs.Dropped.{log_from, log_of, held_rows, Drops, Closed}
+use Rattle.purges.proofs.PurgeLaws.{log_inside, held_record, held_rows_are}
 use Rattle.purges.proofs.close_log.Goals as goal
 
 -- the rows lent, of a log at `at`: from row f to row k
@@ -22,18 +25,14 @@ abbrev lent : List ℕ → ℕ → ℕ → ℕ → List ℕ
 lent t at f k = take ((at + 4 * k) - (at + 4 * f)) (drop (at + 4 * f) t)
 
 module _
-    (t : List ℕ) (p k : ℕ) (barred : Bool) (bars : List ℕ) (d : Drops t p k barred bars) (limit at f : ℕ) (ea : at ≡ log_from p t) (b : f < k)
-    (found : FirstLeaving (goes barred bars limit) k (log_of p t) f)
+    (t : List ℕ) (p k : ℕ) (pre : Record → Type 0) (post : Record → Bool → Type 0) (d : Drops t p k pre post) (at f : ℕ) (ea : at ≡ log_from p t) (b : f < k)
+    (found : FirstLeaving (leaving t p) k (log_of p t) f)
   where
     abbrev leaves : Record → Bool
-    leaves = goes barred bars limit
+    leaves = leaving t p
 
     inside : (log_from p t + 4 * log_most ≤ length t) × (k ≤ log_most)
-    inside =
-        let l = d.is_sound.long in
-        let g = d.is_sound.high in
-        let h = d.there in
-        (omega arith, d.room)
+    inside = (log_inside t d.is_sound p k d.there d.room, d.room)
 
     lent_is : lent t at f k ≡ part (log_from p t + 4 * f) (4 * (k - f)) t
     unfolding part
@@ -61,19 +60,36 @@ module _
         let e : held t p ≡ f + (k - f) = omega arith in
         ap (λ (m : ℕ). records m (log_of p t)) e ∙ records_from f (k - f) (log_of p t) (lent t at f k) same
 
-    each : AllBarred barred bars (records (k - f) (lent t at f k))
-    each some =
-        let each = record_sound (length bars) in
-        and_right (all each (records f (log_of p t))) (all each (records (k - f) (lent t at f k)))
-        (sym (ap (all each) whole ∙ all_append each (records f (log_of p t)) (records (k - f) (lent t at f k))) ∙ d.each some)
+    -- each row lent is one of those that hold records
+    lent_rows : rows (lent t at f k) ≡ k - f
+    lent_rows = let l = lent_long in omega arith
 
-    ready : Closes barred bars limit (k - f) (lent t at f k)
-    ready =
-        let l = lent_long in
+    row : (i : ℕ) → i < k - f → record_at (lent t at f k) i ≡ record_at (held_rows p k t) (f + i)
+    row i h =
+        record_at_agree (lent t at f k) (log_of p t) i (f + i)
+        (λ j g. same (4 * i + j) (omega arith) ∙ ap (λ (m : ℕ). get_or (log_of p t) m 0) (omega arith)) ∙
+        sym (held_record t d.is_sound p k d.there d.room (f + i) (omega arith))
+
+    askable : Askable pre (lent t at f k)
+    askable i h =
+        let l = lent_rows in
+        let r = held_rows_are t d.is_sound p k d.there d.room in
+        rw (row i (omega arith)) (d.askable (f + i) (omega arith))
+
+    follows : Follows post leaves (lent t at f k)
+    follows i b h said =
+        let l = lent_rows in
+        let r = held_rows_are t d.is_sound p k d.there d.room in
+        let e = row i (omega arith) in
+        rw e (d.follows (f + i) b (omega arith) (rw (← e) said))
+
+    closes : Closes leaves (lent t at f k)
+    closes =
+        let l = lent_rows in
         let e : record_at (lent t at f k) 0 ≡ record_at (log_of p t) f =
         record_at_agree (lent t at f k) (log_of p t) 0 f (λ j g. ap (λ (m : ℕ). get_or (lent t at f k) m 0) (omega arith) ∙ same j (omega arith))
         in
-        record { some = omega arith; inside = omega arith; first = ap leaves e ∙ found.first b; each = each }
+        record { some = omega arith; first = ap leaves e ∙ found.first b }
 
     -- what stays of the whole log
     split : stay leaves (node t p).log ≡ records f (log_of p t) ++ stay leaves (records (k - f) (lent t at f k))
@@ -126,38 +142,40 @@ module _
         ap (λ (x : List ℕ). place (log_from p t) x t) (sym (words_append (records f (log_of p t)) rs)) ∙
         ap (λ (x : List Record). place (log_from p t) (words x) t) (sym split)
 
+    done : (n : ℕ) (w : List ℕ) → n ≤ rows (lent t at f k) → Puts 0 (stay leaves (all_records (lent t at f k))) (lent t at f k) n w →
+        Closed t p leaves (f + n) (take (at + 4 * f) t ++ (w ++ drop ((at + 4 * k) - (at + 4 * f)) (drop (at + 4 * f) t))) × (f + n ≤ k)
+    done n w few put =
+        let l = lent_rows in
+        let e : all_records (lent t at f k) ≡ records (k - f) (lent t at f k) = ap (λ (m : ℕ). records m (lent t at f k)) l in
+        let g : Puts 0 (stay leaves (records (k - f) (lent t at f k))) (lent t at f k) n w = rw e at put in
+        (record { many = (many n g.many).0; leaves = closed w g.leaves }, omega arith)
+
 pub close_up-requires : goal.close_up-requires
-close_up-requires c =
-    ready c.args.t.now c.args.p c.args.held c.args.barred c.args.bars.now c.requires.drops.0 c.args.limit
-    c.log_at-at.result c.args.first c.log_at-at.ensures c.requires.drops.1 c.requires.first_leaving
+close_up-requires g c =
+    let drops = c.requires.drops in
+    let found = c.requires.first_leaving in
+    let e = c.log_at-at.ensures in
+    record {
+      askable = askable c.args.t.now c.args.p c.args.held _ _ drops.0 c.log_at-at.result c.args.first e drops.1 found;
+      all = sym (lent_rows c.args.t.now c.args.p c.args.held _ _ drops.0 c.log_at-at.result c.args.first e drops.1 found);
+    }
 
 pub overflow_add-result : goal.overflow_add-result
-overflow_add-result c =
-    let m =
-    many c.args.t.now c.args.p c.args.held c.args.barred c.args.bars.now c.requires.drops.0 c.args.limit
-    c.log_at-at.result c.args.first c.log_at-at.ensures c.requires.drops.1 c.requires.first_leaving c.close_up.result
-    c.close_up.ensures.many
-    in
-    omega (arith, m.1)
+overflow_add-result g c =
+    let drops = c.requires.drops in
+    let few = c.close_up.ensures.few in
+    let l = lent_rows c.args.t.now c.args.p c.args.held _ _ drops.0 c.log_at-at.result c.args.first c.log_at-at.ensures drops.1 c.requires.first_leaving in
+    omega arith
 
 pub returns : goal.returns
-returns c =
+returns g c =
     let t = c.args.t.now in
     let p = c.args.p in
+    let k = c.args.held in
     let at = c.log_at-at.result in
     let f = c.args.first in
-    let k = c.args.held in
-    let bars = c.args.bars.now in
-    let limit = c.args.limit in
-    let m =
-    many t p k c.args.barred bars c.requires.drops.0 limit at f c.log_at-at.ensures c.requires.drops.1 c.requires.first_leaving
-    c.close_up.result c.close_up.ensures.many
-    in (
-      record {
-        many = m.0;
-        leaves =
-            closed t p k c.args.barred bars c.requires.drops.0 limit at f c.log_at-at.ensures c.requires.drops.1 c.requires.first_leaving
-            c.close_up.new.tail c.close_up.ensures.leaves;
-      },
-      m.1,
-    )
+    let drops = c.requires.drops in
+    let found = c.requires.first_leaving in
+    let e = c.log_at-at.ensures in
+    done t p k _ _ drops.0 at f e drops.1 found c.close_up.result c.close_up.new.tail c.close_up.ensures.few
+    (c.close_up.ensures.closed (leaving t p) (follows t p k _ _ drops.0 at f e drops.1 found) (closes t p k _ _ drops.0 at f e drops.1 found))

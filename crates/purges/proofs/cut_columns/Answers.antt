@@ -1,67 +1,82 @@
 -- `purges::cut_columns` meets its contract: the row that is lent is that of the smallest entries, and each record is held to it.
-use mathlib.Core.Path.{◌≡◌, sym, ap, ◌∙◌}
-use mathlib.Core.Bool.{true}
-use mathlib.Core.List.{List, ◌++◌}
-use Prim.Native.Nat.{ℕ, ◌-◌, ◌≤◌}
+use mathlib.Core.Path.{◌≡◌, refl, sym, ap, ◌∙◌}
+use mathlib.Core.List.{List}
+use Prim.Native.Nat.{ℕ, ◌≤◌, ◌<◌}
 use native.Mathlib.Omega.{arith}
-use lib.ListN.{length, take, length-append}
-use lib.Seq.{take-append_seam}
-use Rattle.meaning.specs.Rows.{lowest}
-use Rattle.meaning.specs.Table.{Columns, form_of, node}
-use Rattle.logs.specs.Carry.{goes}
-use Rattle.columns.specs.Smallest.{Lowest}
-use Rattle.purges.specs.Dropped.{Drops, Dropped, Cuts, CutDone}
-use Rattle.purges.proofs.PurgeLaws.{cut_here, cut_room, bars_long, by_row, row_barred, dropped_as}
+use lib.ListN.{length, get_or, take, replicate}
+use lib.Seq.{length-take-le}
+use lib.Dec.{leb}
+use borrow.Author.Rules.{rules}
+use Rattle.meaning.specs.Rows.{covers, record_at}
+use Rattle.meaning.specs.Table.{Sound}
+use Rattle.meaning.proofs.TableLaws.{sound_facts}
+use Rattle.purges.specs.Dropped.{held_rows, Cuts}
+use Rattle.purges.proofs.PurgeLaws.{cut_here, cut_room, bars_long, leaving_row, held_origin, held_rows_are, cut_sound}
 use Rattle.purges.proofs.cut_columns.Goals as goal
 
-module _ (t : List ℕ) (p n k : ℕ) (d : Cuts t p n k) (form : form_of t ≡ Columns) where
-  -- the row w, lent again as the first n words of all that it stands in
-  module _ (w z : List ℕ) (at : ℕ) (o : Lowest t p n w at) where
-    wide : length w ≡ n
-    wide = bars_long t d.is_sound p (cut_here t p n k d) form w o.smallest ∙ sym d.nodes
+-- a row of n words lent from the widest
+abbrev zeros : List ℕ
+zeros = replicate 16 0
 
-    fits : n ≤ length (w ++ z)
-    fits =
-        let l = wide in
-        let a = length-append w z in
-        omega arith
+wide : (n : ℕ) → n ≤ 16 → n ≡ length (take n zeros)
+wide n h = sym (length-take-le n zeros h)
 
-    row : take (n - 0) (w ++ z) ≡ lowest (node t p).columns
-    row =
-        let l = wide in
-        let e : n - 0 ≡ length w = omega arith in
-        ap (λ (m : ℕ). take m (w ++ z)) e ∙ take-append_seam w z ∙ o.smallest
+narrow : (t : List ℕ) (s : Sound t) (p n k : ℕ) → Cuts t p n k → n ≤ 16
+narrow t s p n k d =
+    let nodes = d.nodes in
+    let high = s.high in
+    omega arith
 
-    ready : Drops t p k true (take (n - 0) (w ++ z))
-    ready =
-        record {
-          is_sound = d.is_sound;
-          there = cut_here t p n k d;
-          many = d.many;
-          room = cut_room t p n k d;
-          each = row_barred t d.is_sound p (cut_here t p n k d) form (take (n - 0) (w ++ z)) row;
-        }
+pub slice_bounds-bars-end : goal.slice_bounds-bars-end
+slice_bounds-bars-end c =
+    let t = c.args.t.now.words.now in
+    wide c.args.n (narrow t (sound_facts t c.args.t.now.is_sound) c.args.p c.args.n c.args.held c.requires.0)
 
-    cut : {left : ℕ} {u : List ℕ} → Dropped t p (goes true (take (n - 0) (w ++ z)) 0) left u → left ≤ k → CutDone t p n k left at u
-    cut dropped less =
-        record {
-          dropped = dropped_as t d.is_sound p dropped (by_row t d.is_sound p (cut_here t p n k d) form (take (n - 0) (w ++ z)) row 0);
-          few = less;
-          lags = o.lags;
-          below = o.below;
-        }
-
-pub slice_bounds-drop_rows-end : goal.slice_bounds-drop_rows-end
-slice_bounds-drop_rows-end c =
-    fits c.args.t.now c.args.p c.args.n c.args.held c.requires.0 c.requires.1 c.lowest-at.new.row _
-    c.lowest-at.result c.lowest-at.ensures
+pub bars_of-at-requires : goal.bars_of-at-requires
+bars_of-at-requires c =
+    let t = c.args.t.now.words.now in
+    let s : Sound t = sound_facts t c.args.t.now.is_sound in
+    let e = wide c.args.n (narrow t s c.args.p c.args.n c.args.held c.requires.0) in
+    let there = c.requires.0.there in
+    record {
+      long = s.long;
+      form = c.requires.1;
+      high = s.high;
+      nodes = sym e ∙ c.requires.0.nodes;
+      there = rw (← e) there;
+      wide = refl;
+    }
 
 pub drop_rows-left-requires : goal.drop_rows-left-requires
+unfolding covers
 drop_rows-left-requires c =
-    ready c.args.t.now c.args.p c.args.n c.args.held c.requires.0 c.requires.1 c.lowest-at.new.row _
-    c.lowest-at.result c.lowest-at.ensures
+    let t = c.args.t.now.words.now in
+    let p = c.args.p in
+    let k = c.args.held in
+    let s : Sound t = sound_facts t c.args.t.now.is_sound in
+    let here = cut_here t s p c.args.n k c.requires.0 in
+    let room = cut_room t s p c.args.n k c.requires.0 in
+    let rows = held_rows_are t s p k here room in
+    let bars = c.bars_of-at.ensures.smallest in
+    let wide = bars_long t s p here c.requires.1 c.bars_of-at.new.bars bars in
+    record {
+      is_sound = s;
+      there = here;
+      many = c.requires.0.many;
+      room = room;
+      askable = λ i h.
+          let below : (record_at (held_rows p k t) i).origin < length c.bars_of-at.new.bars =
+          omega (arith, held_origin t s p k here room c.requires.0.many i (omega arith))
+          in
+          search rules;
+      follows = λ i b h e.
+          let r = record_at (held_rows p k t) i in
+          let said : b ≡ leb r.timestamp (get_or c.bars_of-at.new.bars r.origin 0) = search rules in
+          said ∙ ap (λ row. covers row r) bars ∙ sym (leaving_row t s p here c.requires.1 r);
+    }
 
-pub returns : goal.returns
-returns c =
-    cut c.args.t.now c.args.p c.args.n c.args.held c.requires.0 c.requires.1 c.lowest-at.new.row _
-    c.lowest-at.result c.lowest-at.ensures c.drop_rows-left.ensures.0 c.drop_rows-left.ensures.1
+pub invariant_of-t : goal.invariant_of-t
+invariant_of-t c =
+    let t = c.args.t.now.words.now in
+    let s : Sound t = sound_facts t c.args.t.now.is_sound in
+    record { is_sound = cut_sound t s c.args.p c.drop_rows-left.ensures.0 (cut_here t s c.args.p c.args.n c.args.held c.requires.0) }

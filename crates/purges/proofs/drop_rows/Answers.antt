@@ -10,19 +10,21 @@ use Rattle.meaning.specs.declared.Record.{Record}
 use Rattle.meaning.specs.Rows.{words}
 use Rattle.meaning.specs.Table.{Form, form_of, form_words, held, node, place, log_at, held_at}
 use Rattle.meaning.specs.Node.{purged}
+use Rattle.meaning.specs.Steps.{leaving}
 use Rattle.meaning.proofs.PlaceLaws.{place_none, place-part}
 use Rattle.meaning.proofs.PutLaws.{purge_put, log_words_lem, put_held_same}
 use Rattle.meaning.proofs.TableLaws.{form_same, log_length}
-use Rattle.logs.specs.Carry.{goes, stay, FirstLeaving}
+use Rattle.logs.specs.Carry.{stay, FirstLeaving}
 use Rattle.purges.specs.Dropped.{log_from, log_of, Drops, Closed, Dropped}
 use Rattle.purges.proofs.drop_rows.Goals as goal
 
 whole :
-    (t : List ℕ) (p k : ℕ) (barred : Bool) (bars : List ℕ) (d : Drops t p k barred bars) (leaves : Record → Bool) (n at : ℕ) (u v w : List ℕ) →
+    (t : List ℕ) (p k : ℕ) (pre : Record → Type 0) (post : Record → Bool → Type 0) (d : Drops t p k pre post)
+    (leaves : Record → Bool) (n at : ℕ) (u v w : List ℕ) →
     length u ≡ length t → length v ≡ length t → at ≡ held_at (form_of v) p → Closed t p leaves n u →
     v ≡ place (log_from p u + 4 * n) (replicate (4 * (k - n)) 0) u → w ≡ place at (n ∷ []) v → Dropped t p leaves n w
 unfolding purged
-whole t p k barred bars d leaves n at u v w lu lv ea put ev ew =
+whole t p k pre post d leaves n at u v w lu lv ea put ev ew =
     let fu = form_same u t lu in
     let fv = form_same v t lv in
     record {
@@ -45,14 +47,13 @@ held_word t p = refl
 
 -- no record leaves: the table is the one with the purged node put
 module _
-    (t : List ℕ) (p k : ℕ) (barred : Bool) (bars : List ℕ) (d : Drops t p k barred bars) (leaves : Record → Bool) (f : ℕ)
-    (found : FirstLeaving leaves k (log_of p t) f) (e : f ≡ k)
+    (t : List ℕ) (p k : ℕ) (pre : Record → Type 0) (post : Record → Bool → Type 0) (d : Drops t p k pre post) (leaves : Record → Bool)
+    (found : FirstLeaving leaves k (log_of p t) k)
   where
     stays : stay leaves (node t p).log ≡ (node t p).log
     unfolding node
     stays =
-        let q : f ≡ held t p = e ∙ d.many in
-        rw q at found.before
+        rw d.many at found.before
 
     nothing : Dropped t p leaves k t
     unfolding purged
@@ -80,22 +81,13 @@ module _
               put_held_same t s p h t k l (held_word t p ∙ sym ek));
         }
 
-pub returns-then-first-held : goal.returns-then-first-held
-returns-then-first-held c = (
-  nothing c.args.t.now c.args.p c.args.held c.args.barred c.args.bars.now c.requires
-      (goes c.args.barred c.args.bars.now c.args.limit) c.first_of-first.result c.first_of-first.ensures
-      (omega arith),
-  omega arith,
-)
-
-pub close_log-left-requires : goal.close_log-left-requires
-close_log-left-requires c =
-    let w = c.first_of-first.ensures.within in
-    record { drops = (c.requires, omega arith); first_leaving = c.first_of-first.ensures }
+pub returns-in_default : goal.returns-in_default
+returns-in_default g c =
+    (nothing c.args.t.now c.args.p c.args.held _ _ c.requires (leaving c.args.t.now c.args.p) c.in_default.ensures, omega arith)
 
 pub clear_rows-requires : goal.clear_rows-requires
-clear_rows-requires c =
-    let d : Drops c.args.t.now c.args.p c.args.held c.args.barred c.args.bars.now = c.requires in
+clear_rows-requires g c =
+    let d = c.requires in
     let high = d.is_sound.high in
     let here = d.there in (
       long_same c.args.t.now c.close_log-left.new.t c.close_log-left.auto.t d.is_sound.long,
@@ -105,32 +97,19 @@ clear_rows-requires c =
     )
 
 pub held_at-at-requires : goal.held_at-at-requires
-held_at-at-requires c =
-    let d : Drops c.args.t.now c.args.p c.args.held c.args.barred c.args.bars.now = c.requires in
+held_at-at-requires g c =
+    let d = c.requires in
     let high = d.is_sound.high in
     let here = d.there in (
-      long_same c.args.t.now c.clear_rows.new.t (c.clear_rows.auto.t ∙ c.close_log-left.auto.t)
-          d.is_sound.long,
+      long_same c.args.t.now c.clear_rows.new.t (c.clear_rows.auto.t ∙ c.close_log-left.auto.t) d.is_sound.long,
       omega arith,
     )
 
-pub put_word-requires : goal.put_word-requires
-put_word-requires c =
-    let d : Drops c.args.t.now c.args.p c.args.held c.args.barred c.args.bars.now = c.requires in
-    let high = d.is_sound.high in
-    let here = d.there in
-    let at = c.held_at-at.ensures in
-    let l =
-    long_same c.args.t.now c.clear_rows.new.t (c.clear_rows.auto.t ∙ c.close_log-left.auto.t)
-    d.is_sound.long
-    in
-    omega arith
-
 pub returns : goal.returns
-returns c =
-    let lu = c.close_log-left.auto.t in (
-      whole c.args.t.now c.args.p c.args.held c.args.barred c.args.bars.now c.requires
-          (goes c.args.barred c.args.bars.now c.args.limit) c.close_log-left.result c.held_at-at.result
+returns g c =
+    let lu = c.close_log-left.auto.t in
+    let t = c.args.t.now in (
+      whole t c.args.p c.args.held _ _ c.requires (leaving t c.args.p) c.close_log-left.result c.held_at-at.result
           c.close_log-left.new.t c.clear_rows.new.t c.put_word.new.t lu
           (c.clear_rows.auto.t ∙ lu) c.held_at-at.ensures c.close_log-left.ensures.0
           c.clear_rows.ensures c.put_word.ensures,

@@ -1,46 +1,19 @@
--- `purges::first_of` meets its contract: the part that is lent is the node's log.
-use mathlib.Core.Path.{◌≡◌, ap, ◌∙◌}
-use mathlib.Core.Bool.{Bool}
-use Prim.Native.Nat.{ℕ, ◌+◌, ◌*◌, ◌-◌, ◌≤◌}
-use native.Mathlib.Omega.{arith}
-use mathlib.Core.List.{List}
-use lib.ListN.{length, take, drop}
-use Rattle.meaning.specs.Rows.{records}
-use Rattle.meaning.specs.Table.{node, part, log_most}
-use Rattle.meaning.proofs.PlaceLaws.{part_lent, length_part}
-use Rattle.logs.specs.Carry.{AllBarred}
-use Rattle.purges.specs.Dropped.{log_from, log_of, Drops}
+-- `purges::first_of` meets its contract: the part that is lent is the rows of the node's log that hold records.
+use Rattle.meaning.specs.Steps.{leaving}
+use Rattle.purges.proofs.PurgeLaws.{held_lent, first_told}
 use Rattle.purges.proofs.first_of.Goals as goal
 
-module _ (t : List ℕ) (p k : ℕ) (barred : Bool) (bars : List ℕ) (d : Drops t p k barred bars) (at : ℕ) (ea : at ≡ log_from p t) where
-  lent : take ((at + 256) - at) (drop at t) ≡ log_of p t
-  lent = part_lent at 256 t ∙ ap (λ (a : ℕ). part a 256 t) ea
-
-  room : 4 * k ≤ length (take ((at + 256) - at) (drop at t))
-  room =
-      let long = d.is_sound.long in
-      let high = d.is_sound.high in
-      let here = d.there in
-      let r = d.room in
-      let l = ap length lent ∙ length_part (log_from p t) (4 * log_most) t (omega arith) in
-      omega arith
-
-  each : AllBarred barred bars (records k (take ((at + 256) - at) (drop at t)))
-  unfolding node
-  each = rw (lent, d.many) d.each
-
 pub first_leaving-requires : goal.first_leaving-requires
-first_leaving-requires c =
-    let t = c.args.t.now in
-    let bars = c.args.bars.now in (
-      room t c.args.p c.args.held c.args.barred bars c.requires c.log_at-at.result c.log_at-at.ensures,
-      each t c.args.p c.args.held c.args.barred bars c.requires c.log_at-at.result c.log_at-at.ensures,
-    )
+first_leaving-requires g c =
+    let d = c.requires in
+    rw (held_lent c.args.t.now d.is_sound c.args.p c.args.held d.there d.room c.log_at-at.result c.log_at-at.ensures) d.askable
 
 pub returns : goal.returns
-returns c =
-    let e =
-    lent c.args.t.now c.args.p c.args.held c.args.barred c.args.bars.now c.requires c.log_at-at.result
-    c.log_at-at.ensures
-    in
-    rw e at c.first_leaving.ensures
+returns g c =
+    let d = c.requires in
+    let t = c.args.t.now in
+    let p = c.args.p in
+    let k = c.args.held in
+    let lent = held_lent t d.is_sound p k d.there d.room c.log_at-at.result c.log_at-at.ensures in
+    first_told t d.is_sound p k d.there d.room (leaving t p) c.first_leaving.result
+    (rw lent at (c.first_leaving.ensures (leaving t p) (rw lent d.follows)))

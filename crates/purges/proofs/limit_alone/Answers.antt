@@ -10,8 +10,6 @@ use Rattle.purges.proofs.limit_alone.Goals as goal
 pub returns : goal.returns
 unfolding limit limit_of
 returns c =
-    let row =
-    acks_lent c.args.t.now c.args.p c.acks_at-at.result c.args.n c.requires.3 c.acks_at-at.ensures
-    c.requires.2
-    in
-    c.min_of.ensures ∙ ap₂ min (c.smallest-low.ensures ∙ ap least row) c.mark_of.ensures
+    let t = c.args.t.now.words.now in
+    let row = acks_lent t c.args.p c.acks_at-at.result c.args.n c.requires.2 c.acks_at-at.ensures c.requires.1 in
+    c.min.ensures ∙ ap₂ min (c.smallest-low.ensures ∙ ap least row) c.mark.ensures

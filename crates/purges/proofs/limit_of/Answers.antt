@@ -9,4 +9,4 @@ pub returns : goal.returns
 unfolding limit limit_of
 returns c =
     let low = c.low_of-low.ensures in
-    (c.min_of-value.ensures ∙ ap₂ min low.0 c.mark_of.ensures, low.1, low.2)
+    (c.min-value.ensures ∙ ap₂ min low.0 c.mark.ensures, low.1, low.2)

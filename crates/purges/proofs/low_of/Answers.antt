@@ -11,7 +11,7 @@ use Rattle.meaning.specs.Steps.{lagging}
 use Rattle.meaning.specs.Table.{Form, acks_wide, count, node, Sound}
 use Rattle.meaning.proofs.PlaceLaws.{part_lent, inside_lent, get_d_part}
 use Rattle.meaning.proofs.RowLaws.{least_at_below}
-use Rattle.meaning.proofs.TableLaws.{node_shaped}
+use Rattle.meaning.proofs.TableLaws.{node_shaped, sound_facts}
 use Rattle.purges.proofs.PurgeLaws.{acks_lent}
 use Rattle.purges.proofs.low_of.Goals as goal
 
@@ -25,30 +25,28 @@ own t at n h =
 
 pub least_with-requires : goal.least_with-requires
 least_with-requires c =
-    let s : Sound c.args.t.now = c.requires.0 in
+    let s : Sound c.args.t.now.words.now = sound_facts c.args.t.now.words.now c.args.t.now.is_sound in
     let l = s.long in
     let a = s.low in
     let b = s.high in
-    let f = c.requires.2 in
-    let h = c.requires.1 in
-    let e = c.acks_at-at.ensures in
-    inside_lent c.acks_at-at.result _ c.args.t.now 0 (omega arith) (omega arith)
+    inside_lent c.acks_at-at.result _ c.args.t.now.words.now 0 (omega arith) (omega arith)
 
 pub returns : goal.returns
 unfolding lagging lows
 returns c =
-    let t = c.args.t.now in
-    let s : Sound t = c.requires.0 in
+    let t = c.args.t.now.words.now in
+    let s : Sound t = sound_facts t c.args.t.now.is_sound in
     let a = s.low in
-    let f = c.requires.2 in
+    let here = c.requires.0 in
+    let nodes = c.requires.1 in
+    let form = c.requires.2 in
     let row =
     own t c.acks_at-at.result c.args.n (omega arith) ∙
-    acks_lent t c.args.p c.acks_at-at.result c.args.n c.requires.3 c.acks_at-at.ensures c.requires.2
+    acks_lent t c.args.p c.acks_at-at.result c.args.n form c.acks_at-at.ensures nodes
     in
     let found = c.least_with.ensures in
-    let form = c.requires.3 in
     let at = found.1 ∙ ap least_at row ∙ ap (λ (f : Form). least_at (lows f (node t c.args.p))) (sym form) in
-    let wide = (node_shaped t s c.args.p c.requires.1).acks_long ∙ ap (λ (f : Form). acks_wide f (count t)) form in
+    let wide = (node_shaped t s c.args.p here).acks_long ∙ ap (λ (f : Form). acks_wide f (count t)) form in
     let e = found.1 ∙ ap least_at row in
     let below = least_at_below (node t c.args.p).acks (omega arith) in
     (found.0 ∙ ap least row, at, omega arith)

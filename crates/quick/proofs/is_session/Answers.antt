@@ -4,7 +4,9 @@ use mathlib.Core.Bool.{true, true≢false}
 use lib.ListN.{get_or, drop}
 use native.Mathlib.Omega.{arith}
 use lib.Dec.{eqb}
-use borrow.Author.Tests.{eqb-true, eq-eqb}
+use Rattle.std.specs.Prelude.{Some}
+use Rattle.std.specs.Option.{option_eq}
+use Rattle.digits.proofs.DigitLaws.{told_some, some_told}
 use Rattle.digits.specs.Digits.{sum_of}
 use Rattle.heads.specs.Heads.{is_outcome}
 use Rattle.heads.proofs.HeadLaws.{accepted_not, accepted_by}
@@ -39,6 +41,7 @@ returns c =
     let so = sym c.is_outcome.ensures ∙ c.if-not-is_outcome.false in
     let within = outcome_right (get_or s 22 0) (get_or s 23 0) so in
     let few = outcome_is s c.requires in
-    accepted_by s (eqb sum 254)
-    (λ e. session_good s c.requires c.if-s-ne48.false c.if-s-ne50.false (omega (arith, within, few)) (sym (eqb-true sum 254 e) ∙ is))
-    (λ g. eq-eqb sum 254 (is ∙ sym (good_session s c.requires g).3))
+    c.eq.ensures
+    ∙ accepted_by s (option_eq eqb sum (Some 254))
+    (λ e. session_good s c.requires c.if-s-ne48.false c.if-s-ne50.false (omega (arith, within, few)) (told_some sum 254 e ∙ is))
+    (λ g. some_told sum 254 ((good_session s c.requires g).3 ∙ sym is))

@@ -1,7 +1,9 @@
 -- `is_write` meets its contract: what a line of 24 characters must be.
 use mathlib.Core.Path.{sym, ◌∙◌}
 use lib.Dec.{eqb}
-use borrow.Author.Tests.{eqb-true, eq-eqb}
+use Rattle.std.specs.Prelude.{Some}
+use Rattle.std.specs.Option.{option_eq}
+use Rattle.digits.proofs.DigitLaws.{told_some, some_told}
 use Rattle.heads.proofs.HeadLaws.{accepted_not, accepted_by}
 use Rattle.heads.proofs.QuickLaws.{write_good, good_write}
 use Rattle.quick.proofs.is_write.Goals as goal
@@ -21,5 +23,6 @@ returns c =
     let s = c.args.s.now in
     let sum = c.total.result in
     let is = c.total.ensures in
-    accepted_by s (eqb sum 0) (λ e. write_good s c.requires c.if-s-ne48.false c.if-s-ne49.false (sym (eqb-true sum 0 e) ∙ is))
-    (λ g. eq-eqb sum 0 (is ∙ sym (good_write s c.requires g).2))
+    c.eq.ensures
+    ∙ accepted_by s (option_eq eqb sum (Some 0)) (λ e. write_good s c.requires c.if-s-ne48.false c.if-s-ne49.false (told_some sum 0 e ∙ is))
+    (λ g. some_told sum 0 ((good_write s c.requires g).2 ∙ sym is))

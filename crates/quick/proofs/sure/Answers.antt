@@ -1,6 +1,7 @@
 -- `sure` meets its contract: an arm for each length.
 use mathlib.Core.Path.{sym, ◌∙◌, ap}
 use native.Mathlib.Omega.{arith}
+use Rattle.std.specs.Option.{is_some}
 use Rattle.heads.specs.Heads.{accepted}
 use Rattle.heads.proofs.HeadLaws.{accepted_not, whole_part}
 use Rattle.heads.proofs.QuickLaws.{short_sure, no_length}
@@ -8,8 +9,7 @@ use Rattle.quick.proofs.sure.Goals as goal
 
 pub returns-then-s-lt24 : goal.returns-then-s-lt24
 returns-then-s-lt24 c =
-    let s = c.args.s.now in
-    short_sure s c.short_held.result c.short_held.ensures c.if-s-lt24.true
+    c.is_some.ensures ∙ ap is_some c.short_held.ensures ∙ short_sure c.args.s.now
 
 pub returns-in-24 : goal.returns-in-24
 returns-in-24 c =

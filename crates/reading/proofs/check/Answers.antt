@@ -4,7 +4,7 @@ use Prim.Native.Nat.{◌-◌}
 use native.Mathlib.Omega.{arith}
 use lib.ListN.{length}
 use Rattle.meaning.specs.Frames.{line_fault}
-use Rattle.meaning.proofs.FrameLaws.{clear_place, fault_is}
+use Rattle.meaning.proofs.FrameLaws.{no_fault}
 use Rattle.heads.proofs.HeadLaws.{whole_part, accepted_clear}
 use Rattle.reading.proofs.check.Goals as goal
 
@@ -12,7 +12,7 @@ pub returns-then-sure : goal.returns-then-sure
 returns-then-sure c =
     let s = c.args.s.now in
     let clear = accepted_clear s (sym c.sure.ensures ∙ c.if-sure.true) in
-    fault_is s 0 0 (clear, clear_place s clear)
+    no_fault s clear
 
 pub returns : goal.returns
 returns c =

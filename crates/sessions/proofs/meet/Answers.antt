@@ -1,124 +1,120 @@
--- `sessions::meet` meets its contract: 5 where a reading is behind its node's own entry, or the exchange.
-use mathlib.Core.Path.{◌≡◌, refl, ap, ap₂, ◌∙◌}
+-- `sessions::meet` meets its contract: refused where a reading is behind its node's own entry, or the exchange.
+use mathlib.Core.Path.{◌≡◌, refl, sym, ◌∙◌}
 use mathlib.Core.Bool.{Bool, true, false}
 use mathlib.Core.List.{List}
-use Prim.Native.Nat.{ℕ, ◌-◌, ◌<◌, ◌≤◌}
+use Prim.Native.Nat.{ℕ, ◌<◌, ◌≤◌}
 use native.Mathlib.Omega.{arith}
-use lib.ListN.{length, take}
-use Rattle.meaning.specs.declared.Reply.{Reply}
-use Rattle.meaning.specs.declared.Reply.TheVariants.{Refused}
+use lib.ListN.{take}
+use Rattle.std.specs.Prelude.{Err}
+use Rattle.meaning.specs.declared.Refusal.TheVariants.{TimeBehind, LogFull}
 use Rattle.meaning.specs.declared.Action.TheVariants.{Session}
-use Rattle.meaning.specs.Table.{form_of, Node, acks_wide, node, count, Sound}
+use Rattle.meaning.specs.Table.{form_of, acks_wide, node, count, sound, Sound}
 use Rattle.meaning.specs.Node.{own, opened}
-use Rattle.meaning.specs.Steps.{acted, reported}
-use Rattle.meaning.proofs.TableLaws.{node_shaped}
-use Rattle.meaning.proofs.StepLaws.{opened_shaped, session_is_5_a, session_is_5_b, session_is_6, session_is_0, refuse, accept}
+use Rattle.meaning.specs.Steps.{Reply, acted, reported}
+use Rattle.meaning.proofs.TableLaws.{sound_facts}
+use Rattle.meaning.proofs.StepLaws.{session_is_5_a, session_is_5_b, session_is_6, session_is_0, refuse, accept}
 use Rattle.looks.specs.Applied.{Applied}
-use Rattle.openings.specs.Begun.{begun, OwnOnly, Starts}
-use Rattle.openings.proofs.OwnLaws.{own_starts}
-use Rattle.exchanges.specs.Met.{crowded, Exchanged, Meets, Traded}
+use Rattle.looks.proofs.Keeps.{applied_kept}
+use Rattle.openings.specs.declared.Reading.{Reading}
+use Rattle.openings.specs.declared.Start.{Start}
+use Rattle.openings.specs.Begun.{begun, Starts}
+use Rattle.openings.proofs.OwnLaws.{lent_begins, lent_fits, lent_opens}
+use Rattle.exchanges.specs.Met.{crowded, Meets, Traded}
 use Rattle.sessions.proofs.meet.Goals as goal
+use Rattle.sessions.proofs.meet.Goals.{then-a-own-via-then-a-own, then-a-own-via-else-a-own+then-b-own}
 
-module _ (t : List ℕ) (a b ca cb o : ℕ) (pre : Sound t × (a < count t) × (b < count t) × (a ≡ b → ⊥) × (o ≤ 3)) where
-  back_a : (x : ℕ) → x ≡ own a (node t a) → ca < x → Applied t (Session a b ca cb o) (Refused 5) t
-  back_a x e h = refuse t (Session a b ca cb o) 4 (session_is_5_a t pre.0 a b ca cb o pre.4 pre.1 pre.2 pre.3 (omega arith))
+module _ (t : List ℕ) (is : sound t ≡ true) (a b : Reading) (o : ℕ)
+    (pre : (a.node < count t) × (b.node < count t) × (a.node ≡ b.node → ⊥) × (o ≤ 3)) where
+  s : Sound t
+  s = sound_facts t is
 
-  back_b : (x : ℕ) → x ≡ own b (node t b) → cb < x → Applied t (Session a b ca cb o) (Refused 5) t
-  back_b x e h = refuse t (Session a b ca cb o) 4 (session_is_5_b t pre.0 a b ca cb o pre.4 pre.1 pre.2 pre.3 (omega arith))
+  back_a : {x : ℕ} → x ≡ own a.node (node t a.node) → a.time < x → Applied t (Session a.node b.node a.time b.time o) (Err TimeBehind) t
+  back_a e h =
+      refuse t (Session a.node b.node a.time b.time o) TimeBehind
+      (session_is_5_a t s a.node b.node a.time b.time o pre.3 pre.0 pre.1 pre.2 (omega arith))
+
+  back_b : {x : ℕ} → x ≡ own b.node (node t b.node) → b.time < x → Applied t (Session a.node b.node a.time b.time o) (Err TimeBehind) t
+  back_b e h =
+      refuse t (Session a.node b.node a.time b.time o) TimeBehind
+      (session_is_5_b t s a.node b.node a.time b.time o pre.3 pre.0 pre.1 pre.2 (omega arith))
 
   -- the readings are in order
-  module _ {r : Reply} {u : List ℕ} (trade : Traded t o a b (opened a ca (node t a)) (opened b cb (node t b)) r u)
-      (ga : own a (node t a) ≤ ca) (gb : own b (node t b) ≤ cb) where
-    by_room : (full : Bool) → crowded o (opened a ca (node t a)) (opened b cb (node t b)) ≡ full → Applied t (Session a b ca cb o) r u
+  module _ {r : Reply} {u : List ℕ}
+      (trade : Traded t o a.node b.node (opened a.node a.time (node t a.node)) (opened b.node b.time (node t b.node)) r u)
+      (ga : own a.node (node t a.node) ≤ a.time) (gb : own b.node (node t b.node) ≤ b.time) where
+    by_room :
+        (full : Bool) → crowded o (opened a.node a.time (node t a.node)) (opened b.node b.time (node t b.node)) ≡ full →
+        Applied t (Session a.node b.node a.time b.time o) r u
     unfolding reported acted
     by_room true h =
         let is = trade.full h in
-        let asked = refuse t (Session a b ca cb o) 5 (session_is_6 t pre.0 a b ca cb o pre.4 pre.1 pre.2 pre.3 ga gb h) in
+        let six = session_is_6 t s a.node b.node a.time b.time o pre.3 pre.0 pre.1 pre.2 ga gb h in
+        let asked = refuse t (Session a.node b.node a.time b.time o) LogFull six in
         (is.0 ∙ asked.0, is.1 ∙ asked.1)
     by_room false h =
         let is = trade.done h in
-        let asked = accept t (Session a b ca cb o) (session_is_0 t pre.0 a b ca cb o pre.4 pre.1 pre.2 pre.3 ga gb h) in
+        let asked =
+        accept t (Session a.node b.node a.time b.time o) (session_is_0 t s a.node b.node a.time b.time o pre.3 pre.0 pre.1 pre.2 ga gb h)
+        in
         (is.0 ∙ asked.0, is.1 ∙ asked.1)
 
-  -- n entries of a summary are lent, and as many of a row of acknowledgements as the form has
-  module _ (n : ℕ) (en : n ≡ count t) (m : ℕ) (em : m ≡ n) (w : ℕ) (ew : w ≡ acks_wide (form_of t) n) (sa ka sb kb : List ℕ)
-      (ea : Starts t a n ca sa ka) (eb : Starts t b n cb sb kb) where
-    -- the lent parts of a node's rows are its starting values
-    lent : (p c : ℕ) (s k : List ℕ) → Starts t p n c s k → begun t p (take m s) (take w k) (node t p).log ≡ opened p c (node t p)
-    lent p c s k e = ap₂ (λ (i j : ℕ). begun t p (take i s) (take j k) (node t p).log) em ew ∙ e
-
-    long :
-        (p c : ℕ) → p < count t → (s k : List ℕ) → Starts t p n c s k →
-        (length (take m s) ≡ count t) × (length (take w k) ≡ acks_wide (form_of t) (count t))
-    long p c h s k e =
-        let f = opened_shaped (form_of t) (count t) p (node t p) (node_shaped t pre.0 p h) c in
-        (ap (λ (z : Node). length z.summary) (lent p c s k e) ∙ f.summary_long, ap (λ (z : Node). length z.acks) (lent p c s k e) ∙ f.acks_long)
-
-    alone : (p c : ℕ) → p < count t → (s k : List ℕ) → Starts t p n c s k → OwnOnly t p (take m s) (take w k)
-    alone p c h s k e = rw (em, ew) (own_starts t pre.0 p h n c s k e)
-
-    ready : Meets t a b (take m sa) (take w ka) (take m sb) (take w kb)
-    ready =
+  -- the lent parts of both nodes' rows are what they begin with
+  module _ (n w : ℕ) (en : n ≡ count t) (ew : w ≡ acks_wide (form_of t) (count t)) (sa ka sb kb : List ℕ) (ea : Starts t a sa ka)
+      (eb : Starts t b sb kb) where
+    ready :
+        {x y : Start} → x.node ≡ a.node → x.summary.now ≡ take n sa → x.acks.now ≡ take w ka → y.node ≡ b.node → y.summary.now ≡ take n sb →
+        y.acks.now ≡ take w kb → Meets t x y
+    ready {x} {y} na la ma nb lb mb =
         record {
-          is_sound = pre.0;
-          here_a = pre.1;
-          here_b = pre.2;
-          apart = pre.3;
-          long_a = long a ca pre.1 sa ka ea;
-          long_b = long b cb pre.2 sb kb eb;
-          opens_a = alone a ca pre.1 sa ka ea;
-          opens_b = alone b cb pre.2 sb kb eb;
+          is_sound = s;
+          fits_a = lent_fits t a n w sa ka en ew ea s pre.0 x na la ma;
+          fits_b = lent_fits t b n w sb kb en ew eb s pre.1 y nb lb mb;
+          apart = λ e. pre.2 (sym na ∙ e ∙ nb);
+          opens_a = lent_opens t a n w sa ka en ew ea s pre.0 x na la ma;
+          opens_b = lent_opens t b n w sb kb en ew eb s pre.1 y nb lb mb;
         }
 
     done :
-        (x y : ℕ) → x ≡ own a (node t a) → x ≤ ca → y ≡ own b (node t b) → y ≤ cb → {r : Reply} {u : List ℕ} →
-        Exchanged t o a b (take m sa) (take w ka) (take m sb) (take w kb) r u → Applied t (Session a b ca cb o) r u
-    done x y ex lx ey ly {r} {u} e =
-        let trade : Traded t o a b (opened a ca (node t a)) (opened b cb (node t b)) r u =
-        rw (lent a ca sa ka ea, lent b cb sb kb eb) at e
-        in
-        by_room trade (omega arith) (omega arith) (crowded o (opened a ca (node t a)) (opened b cb (node t b))) refl
+        {x y : ℕ} → x ≡ own a.node (node t a.node) → x ≤ a.time → y ≡ own b.node (node t b.node) → y ≤ b.time → {r : Reply} {u : List ℕ} →
+        Traded t o a.node b.node (begun t a.node (take n sa) (take w ka) (node t a.node).log)
+        (begun t b.node (take n sb) (take w kb) (node t b.node).log) r u →
+        Applied t (Session a.node b.node a.time b.time o) r u
+    done ia ga ib gb {r} {u} e =
+        let x = opened a.node a.time (node t a.node) in
+        let y = opened b.node b.time (node t b.node) in
+        let trade : Traded t o a.node b.node x y r u = rw (lent_begins t a n w sa ka en ew ea, lent_begins t b n w sb kb en ew eb) at e in
+        by_room trade (omega arith) (omega arith) (crowded o x y) refl
 
-pub own_of-requires : goal.own_of-requires
-own_of-requires c =
-    (c.requires.0, c.requires.1)
-
-pub returns-then-ca-own_of : goal.returns-then-ca-own_of
-returns-then-ca-own_of c =
-    back_a c.args.t.now c.args.a c.args.b c.args.ca c.args.cb c.args.outcome c.requires
-    c.own_of.result c.own_of.ensures c.if-ca-own_of.true
-
-pub own_of-requires-2 : goal.own_of-requires-2
-own_of-requires-2 c =
-    (c.requires.0, c.requires.2)
-
-pub returns-then-cb-own_of : goal.returns-then-cb-own_of
-returns-then-cb-own_of c =
-    back_b c.args.t.now c.args.a c.args.b c.args.ca c.args.cb c.args.outcome c.requires
-    c.own_of-2.result c.own_of-2.ensures c.if-cb-own_of.true
-
-pub nodes_of-n-requires : goal.nodes_of-n-requires
-nodes_of-n-requires c =
-    c.requires.0
+pub returns-then-a-own-clause-done : goal.returns-then-a-own-clause-done
+returns-then-a-own-clause-done c =
+    elim c.then-a-own.branch [
+      | then-a-own-via-then-a-own w ↦
+          back_a c.args.t.now.words.now c.args.t.now.is_sound c.args.a c.args.b c.args.outcome c.requires c.own.ensures w.if-a-own.true
+      | then-a-own-via-else-a-own+then-b-own w ↦
+          back_b c.args.t.now.words.now c.args.t.now.is_sound c.args.a c.args.b c.args.outcome c.requires w.own-else-a-own.ensures w.if-b-own.true
+    ]
 
 pub exchange-requires : goal.exchange-requires
 exchange-requires c =
-    let n = c.nodes_of-n.result - 0 in
-    let z : n ≡ c.nodes_of-n.result = omega arith in
-    let w = c.acks_wide-w.result - 0 in
-    let wide = c.acks_wide-w.ensures.0 in
-    ready c.args.t.now c.args.a c.args.b c.args.ca c.args.cb c.args.outcome c.requires
-    c.nodes_of-n.result c.nodes_of-n.ensures.0 n z w (omega arith) c.opening.new.summary c.opening.new.acks
-    c.opening-2.new.summary c.opening-2.new.acks c.opening.ensures c.opening-2.ensures
+    ready c.args.t.now.words.now c.args.t.now.is_sound c.args.a c.args.b c.args.outcome c.requires c.nodes-n.result c.acks_wide-w.result
+    c.nodes-n.ensures.0 c.acks_wide-w.ensures.0 c.opening.new.summary c.opening.new.acks c.opening-2.new.summary c.opening-2.new.acks
+    c.opening.ensures c.opening-2.ensures refl refl refl refl refl refl
 
-pub returns : goal.returns
-returns c =
-    let n = c.nodes_of-n.result - 0 in
-    let z : n ≡ c.nodes_of-n.result = omega arith in
-    let w = c.acks_wide-w.result - 0 in
-    let wide = c.acks_wide-w.ensures.0 in
-    done c.args.t.now c.args.a c.args.b c.args.ca c.args.cb c.args.outcome c.requires
-    c.nodes_of-n.result c.nodes_of-n.ensures.0 n z w (omega arith) c.opening.new.summary c.opening.new.acks
-    c.opening-2.new.summary c.opening-2.new.acks c.opening.ensures c.opening-2.ensures
-    c.own_of.result c.own_of-2.result c.own_of.ensures c.if-ca-own_of.false c.own_of-2.ensures
-    c.if-cb-own_of.false c.exchange.ensures
+pub returns-clause-done : goal.returns-clause-done
+returns-clause-done c =
+    done c.args.t.now.words.now c.args.t.now.is_sound c.args.a c.args.b c.args.outcome c.requires c.nodes-n.result c.acks_wide-w.result
+    c.nodes-n.ensures.0 c.acks_wide-w.ensures.0 c.opening.new.summary c.opening.new.acks c.opening-2.new.summary c.opening-2.new.acks
+    c.opening.ensures c.opening-2.ensures c.own.ensures c.if-a-own.false c.own-else-a-own.ensures c.if-b-own.false c.exchange.ensures
+
+pub invariant_of-t : goal.invariant_of-t
+invariant_of-t c =
+    let step =
+    done c.args.t.now.words.now c.args.t.now.is_sound c.args.a c.args.b c.args.outcome c.requires c.nodes-n.result c.acks_wide-w.result
+    c.nodes-n.ensures.0 c.acks_wide-w.ensures.0 c.opening.new.summary c.opening.new.acks c.opening-2.new.summary c.opening-2.new.acks
+    c.opening.ensures c.opening-2.ensures c.own.ensures c.if-a-own.false c.own-else-a-own.ensures c.if-b-own.false c.exchange.ensures
+    in
+    record {
+      is_sound =
+          applied_kept c.args.t.now.words.now (Session c.args.a.node c.args.b.node c.args.a.time c.args.b.time c.args.outcome) c.exchange.result
+          c.exchange.new.t step (omega arith) c.args.t.now.is_sound;
+    }

@@ -1,27 +1,14 @@
--- `soundness::logs_sound`. The invariant: every log passed is sound.
-use mathlib.Core.Path.{sym, ap, ◌∙◌}
-use mathlib.Core.Bool.{not}
-use native.Mathlib.Omega.{arith}
-use borrow.Author.Tests.{not-true, not-false}
-use Rattle.meaning.proofs.SoundLaws.{every-none, every_last, every_whole, every_not}
+-- `soundness::logs_sound`: a test at each number of a range is the test at every number below its end.
+use Rattle.std.proofs.Common.{◌∙◌, refl, rules, tests, arith}
+use Rattle.std.proofs.lemmas.Iterator.{YieldsList-from_range}
+use Rattle.std.proofs.lemmas.Iterator.Search.{all_from_yields_List}
+use Rattle.meaning.specs.Table.{log_sound}
+use Rattle.soundness.proofs.ScanLaws.{every-all}
 use Rattle.soundness.proofs.logs_sound.Goals as goal
 
-pub loop-p-init : goal.loop-p-init
-loop-p-init c = (omega arith, every-none _)
-
-pub returns-then-not-log_sound : goal.returns-then-not-log_sound
-returns-then-not-log_sound c =
-    sym (every_not _ _ _ c.loop-p-test.true (sym c.log_sound.ensures ∙ not-true c.log_sound.result (ap not c.if-not-log_sound.true)))
-
-pub overflow_add-p : goal.overflow_add-p
-overflow_add-p c = omega arith
-
-pub loop-p-smaller : goal.loop-p-smaller
-loop-p-smaller c = omega arith
-
-pub loop-p-preserved : goal.loop-p-preserved
-loop-p-preserved c =
-    (omega arith, every_last _ _ c.loop-p.invariant.1 (sym c.log_sound.ensures ∙ not-false c.log_sound.result (ap not c.if-not-log_sound.false)))
-
 pub returns : goal.returns
-returns c = every_whole _ _ _ c.loop-p.invariant.0 (omega arith) c.loop-p.invariant.1
+returns c =
+    let n = c.args.n in
+    all_from_yields_List (log_sound c.args.t.now) _ _ c.all.result c.all.ensures.ran (YieldsList-from_range 0 n n refl (omega arith))
+    (λ x b q k. search (rules, tests)) ∙
+    every-all n (log_sound c.args.t.now)

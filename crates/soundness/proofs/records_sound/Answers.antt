@@ -1,73 +1,65 @@
--- `soundness::records_sound`. The invariant: no origin is counted and the bits seen make a byte just if each of the k records passed is sound.
-use mathlib.Core.Path.{◌≡◌, ◌∙◌}
-use mathlib.Core.Bool.{Bool, true, false, cond}
-use Prim.Native.Nat.{ℕ, ◌≤◌, ◌*◌}
-use native.Mathlib.Omega.{arith}
+-- `soundness::records_sound`. The invariant: no origin is counted and the bits seen make a byte just if each of the records passed is sound.
+use Rattle.std.proofs.Common.{◌≡◌, ◌∙◌, ap, ℕ, ◌+◌, ◌*◌, ◌/◌, ◌<◌, ◌&&◌, true, false, List, [], length, get_or, leb, eqb, arith}
+use native.Mathlib.Nat.{add-zero}
+use lib.Bits.{bit_or}
+use mir.Val.{bool_byte}
+use Rattle.std.specs.Simd.{first_chunks}
+use Rattle.meaning.specs.Rows.{every, record_at}
+use Rattle.meaning.specs.Table.{record_sound}
 use borrow.Author.Tests.{eq-eqb, ne_eqb}
-use lib.ListN.{get_or}
-use lib.Dec.{ltb}
 use Rattle.meaning.proofs.SoundLaws.{scan_starts, scan_more, scan_ends}
+use Rattle.soundness.proofs.ScanLaws.{record_word, counted, one_more}
 use Rattle.soundness.proofs.records_sound.Goals as goal
 
--- one record adds at most 1 to the count
-one : (origin n d : ℕ) → d ≡ cond (ltb origin n) 0 1 → d ≤ 1
-one origin n d e = go (ltb origin n) e
-  where
-    go : (passes : Bool) → d ≡ cond passes 0 1 → d ≤ 1
-    go true h = omega arith
-    go false h = omega arith
+pub loop-origin-init : goal.loop-origin-init
+loop-origin-init c = record { few = omega arith; passed = scan_starts c.args.w.now c.args.n }
 
-pub loop-k-init : goal.loop-k-init
-loop-k-init c = (omega arith, omega arith, scan_starts c.args.w.now c.args.n)
+module _ (w : List ℕ) (rows : List (List ℕ)) (is : rows ≡ first_chunks 4 (length w / 4) w) (long : length rows ≡ length w / 4) (n i : ℕ)
+    (here : i < length rows) where
+  word : (j : ℕ) → j < 4 → get_or (get_or rows i []) j 0 ≡ get_or w (4 * i + j) 0
+  word j h = ap (λ (z : List (List ℕ)). get_or (get_or z i []) j 0) is ∙ record_word (length w / 4) w i j (omega arith) h
 
-pub overflow_mul-k : goal.overflow_mul-k
-overflow_mul-k c = omega arith
+  more :
+      (m v d : ℕ) → d ≡ bool_byte (leb n (get_or (get_or rows i []) 0 0)) →
+      (eqb m 0 && leb v 255) ≡ every i (λ k. record_sound n (record_at w k)) →
+      (eqb (m + d) 0 && leb (bit_or v (get_or (get_or rows i []) 3 0)) 255) ≡ every (i + 1) (λ k. record_sound n (record_at w k))
+  more m v d e before =
+      let first : get_or (get_or rows i []) 0 0 ≡ get_or w (4 * i) 0 = word 0 (omega arith) ∙ ap (λ (k : ℕ). get_or w k 0) (add-zero (4 * i)) in
+      ap (λ (x : ℕ). eqb (m + d) 0 && leb (bit_or v x) 255) (word 3 (omega arith)) ∙
+      scan_more w n i m v d (counted (get_or w (4 * i) 0) n d (e ∙ ap (λ (x : ℕ). bool_byte (leb n x)) first)) before
 
-pub offset_bounds-w-k : goal.offset_bounds-w-k
-offset_bounds-w-k c = omega arith
-
-pub bounds-w-k : goal.bounds-w-k
-bounds-w-k c = omega arith
+pub loop-origin-preserved : goal.loop-origin-preserved
+loop-origin-preserved c =
+    let rows = c.as_chunks.result.0.now in
+    let i = c.loop-origin.origin-index in
+    let told = c.from-beyonds.ensures in
+    let before = c.loop-origin.invariant in
+    let least = one_more _ c.from-beyonds.result told in
+    record {
+      few = omega (arith, before.few);
+      passed = more c.args.w.now rows c.as_chunks.ensures.front c.as_chunks.ensures.front_len c.args.n i c.loop-origin-test.true c.loop-origin.beyonds
+          c.loop-origin.verdicts c.from-beyonds.result told before.passed;
+    }
 
 pub overflow_add-beyonds : goal.overflow_add-beyonds
 overflow_add-beyonds c =
-    let most = one (get_or c.args.w.now (4 * c.loop-k.k) 0) c.args.n c.beyond-beyonds.result c.beyond-beyonds.ensures in
-    omega arith
-
-pub overflow_mul-verdict : goal.overflow_mul-verdict
-overflow_mul-verdict c = omega arith
-
-pub overflow_add-verdict : goal.overflow_add-verdict
-overflow_add-verdict c = omega arith
-
-pub offset_bounds-w-k-in-loop-k : goal.offset_bounds-w-k-in-loop-k
-offset_bounds-w-k-in-loop-k c = omega arith
-
-pub bounds-w-k-in-loop-k : goal.bounds-w-k-in-loop-k
-bounds-w-k-in-loop-k c = omega arith
-
-pub overflow_add-k : goal.overflow_add-k
-overflow_add-k c = omega arith
-
-pub loop-k-smaller : goal.loop-k-smaller
-loop-k-smaller c = omega arith
-
-pub loop-k-preserved : goal.loop-k-preserved
-loop-k-preserved c =
-    let w = c.args.w.now in
-    let n = c.args.n in
-    let loop = c.loop-k in
-    let d = c.beyond-beyonds.result in
-    let most = one (get_or w (4 * loop.k) 0) n d c.beyond-beyonds.ensures in
-    (omega arith, omega arith, scan_more w n loop.k loop.beyonds loop.verdict d c.beyond-beyonds.ensures loop.invariant.2)
+    let least = one_more _ c.from-beyonds.result c.from-beyonds.ensures in
+    let before = c.loop-origin.invariant in
+    let long = c.as_chunks.ensures.front_len in
+    omega (arith, before.few)
 
 pub returns-then-beyonds-eq0 : goal.returns-then-beyonds-eq0
 returns-then-beyonds-eq0 c =
-    let loop = c.loop-k in
-    scan_ends _ _ true loop.k _ loop.beyonds loop.verdict loop.invariant.0 (omega arith) (eq-eqb loop.beyonds 0 c.if-beyonds-eq0.true) loop.invariant.2
+    let loop = c.loop-origin in
+    let long = c.as_chunks.ensures.front_len in
+    let end = loop.auto.origin-index-end in
+    scan_ends _ _ true loop.origin-index _ loop.beyonds loop.verdicts (omega arith) (omega arith) (eq-eqb loop.beyonds 0 c.if-beyonds-eq0.true)
+    loop.invariant.passed
 
 pub returns-else-beyonds-eq0 : goal.returns-else-beyonds-eq0
 returns-else-beyonds-eq0 c =
-    let loop = c.loop-k in
+    let loop = c.loop-origin in
+    let long = c.as_chunks.ensures.front_len in
+    let end = loop.auto.origin-index-end in
     let some = ne_eqb loop.beyonds 0 c.if-beyonds-eq0.false in
-    some ∙ scan_ends _ _ false loop.k _ loop.beyonds loop.verdict loop.invariant.0 (omega arith) some loop.invariant.2
+    some ∙ scan_ends _ _ false loop.origin-index _ loop.beyonds loop.verdicts (omega arith) (omega arith) some loop.invariant.passed

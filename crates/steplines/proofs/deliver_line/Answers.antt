@@ -1,20 +1,11 @@
 -- `deliver_line` meets its contract: no line, or the delivery's step.
-use mathlib.Core.Path.{◌∙◌, ap}
-use native.Mathlib.Omega.{arith}
-use Rattle.heads.specs.Heads.{short_of}
-use Rattle.heads.proofs.HeadLaws.{six_of}
 use Rattle.steplines.proofs.StepLineLaws.{short_unsure, delivery_turned}
 use Rattle.steplines.proofs.deliver_line.Goals as goal
 
-pub returns-then-line-ge-NO_LINE : goal.returns-then-line-ge-NO_LINE
-returns-then-line-ge-NO_LINE c =
-    let s = c.args.s.now in
-    short_unsure c.args.t.now c.requires.0 s c.requires.1 c.short_line-line.result
-    (c.short_line-line.ensures ∙ ap short_of (six_of s c.requires.1)) (omega (arith, c.if-line-ge-NO_LINE.true))
+pub returns-in_default-clause-turned : goal.returns-in_default-clause-turned
+returns-in_default-clause-turned c = short_unsure c.args.t.now.words.now c.args.s.now c.in_default.ensures
 
-pub returns : goal.returns
-returns c =
-    let s = c.args.s.now in
-    delivery_turned c.args.t.now c.requires.0 s c.requires.1 c.short_line-line.result
-    (c.short_line-line.ensures ∙ ap short_of (six_of s c.requires.1)) c.if-line-ge-NO_LINE.false c.requires.2
-    c.deliver_alone-r.ensures c.count.ensures
+pub returns-clause-turned : goal.returns-clause-turned
+returns-clause-turned c =
+    delivery_turned c.args.t.now.words.now c.args.s.now c.requires.0 c.in-Some.delivery c.in-Some.ensures c.requires.1
+    c.deliver_alone.ensures.done c.from.ensures

@@ -1,58 +1,59 @@
--- `done_text` writes nothing where a test of the definition fails, and else all lines.
+-- `done_text` prints all lines where each test of the definition holds, and else nothing.
 use mathlib.Core.Path.{◌≡◌}
-use mathlib.Core.Bool.{true}
+use mathlib.Core.Bool.{true, false}
+use mathlib.Core.List.{List}
+use Prim.Native.Nat.{ℕ}
 use native.Mathlib.Omega.{arith}
 use lib.ListN.{length}
 use borrow.Author.Tests.{eq-eqb, ne_eqb, le-leb, lt-leb}
-use Rattle.meaning.specs.declared.Outcome.TheVariants.{Done}
+use Rattle.std.specs.Prelude.{Ok}
+use Rattle.meaning.specs.declared.Done.{Done}
 use Rattle.meaning.specs.Table.{Vectors, form_words, nodes_most, count}
-use Rattle.text.specs.Text.{text_most, has_nodes}
-use Rattle.printing.proofs.Writing.{wrote_as, wrote_none}
+use Rattle.printing.specs.Printed.{Printed, Room}
+use Rattle.text.specs.Text.{text_most, has_nodes, text_for}
+use Rattle.printing.specs.declared.Printer.{Printer}
+use Rattle.printing.proofs.Printing.{printed_as, printed_none}
 use Rattle.nodeparts.proofs.PartLaws.{count_is}
 use Rattle.text.proofs.Lines.{text_none, text_whole}
 use Rattle.text.proofs.done_text.Goals as goal
+use Rattle.text.proofs.done_text.Goals.{
+  else-t-eq-TABLE_WORDS-via-then-t-eq-TABLE_WORDS+then-t-most+else-done-most,
+  else-t-eq-TABLE_WORDS-via-then-t-eq-TABLE_WORDS+else-t-most,
+  else-t-eq-TABLE_WORDS-via-else-t-eq-TABLE_WORDS,
+}
 
-pub returns-then-t-ne-TABLE_WORDS : goal.returns-then-t-ne-TABLE_WORDS
-returns-then-t-ne-TABLE_WORDS c =
-    let out = c.args.out.now in
-    let t = c.args.t.now in
-    let x = Done c.args.n c.args.steps c.args.refused in
-    wrote_as (text_none out x t c.requires (rw (ne_eqb (length t) (form_words Vectors) c.if-t-ne-TABLE_WORDS.true))) (omega arith) (wrote_none out 0 text_most)
+-- nothing is printed where a test fails
+nothing : (p : Printer) (x : Done) (t : List ℕ) → Room p text_most → has_nodes (Ok x) t ≡ false → Printed p (text_for p.out.now (Ok x) t) text_most p
+nothing p x t h e = printed_as (text_none p.out.now (Ok x) t (omega arith) e) (omega arith) (printed_none p text_most (omega arith))
 
-pub returns-then-t : goal.returns-then-t
-returns-then-t c =
-    let out = c.args.out.now in
+pub invariant_of-all_lines : goal.invariant_of-all_lines
+invariant_of-all_lines c =
+    let e = count_is c.args.t.now in
+    record { nodes = record { long = c.if-t-eq-TABLE_WORDS.true; few = omega arith } }
+
+pub returns-then-done-most : goal.returns-then-done-most
+returns-then-done-most c =
     let t = c.args.t.now in
-    let x = Done c.args.n c.args.steps c.args.refused in
+    let x = c.args.done in
     let e = count_is t in
-    let long = eq-eqb (length t) (form_words Vectors) c.if-t-ne-TABLE_WORDS.false in
-    let many = lt-leb (count t) nodes_most (omega arith) in
-    wrote_as (text_none out x t c.requires (rw (long, many))) (omega arith) (wrote_none out 0 text_most)
-
-pub returns-then-n : goal.returns-then-n
-returns-then-n c =
-    let out = c.args.out.now in
-    let t = c.args.t.now in
-    let x = Done c.args.n c.args.steps c.args.refused in
-    let e = count_is t in
-    let long = eq-eqb (length t) (form_words Vectors) c.if-t-ne-TABLE_WORDS.false in
+    let long = eq-eqb (length t) (form_words Vectors) c.if-t-eq-TABLE_WORDS.true in
     let few = le-leb (count t) nodes_most (omega arith) in
-    let many = lt-leb c.args.n nodes_most c.if-n.true in
-    wrote_as (text_none out x t c.requires (rw (long, few, many))) (omega arith) (wrote_none out 0 text_most)
+    let h : has_nodes (Ok x) t ≡ true = rw (long, few, le-leb x.n nodes_most c.if-done-most.true) in
+    printed_as (text_whole c.args.printer.now.out.now (Ok x) t (omega arith) h) (omega arith) c.all_lines.ensures
 
-pub all_lines-requires : goal.all_lines-requires
-all_lines-requires c =
+pub returns-else-t-eq-TABLE_WORDS : goal.returns-else-t-eq-TABLE_WORDS
+returns-else-t-eq-TABLE_WORDS c =
     let t = c.args.t.now in
+    let x = c.args.done in
     let e = count_is t in
-    (record { long = c.if-t-ne-TABLE_WORDS.false; few = omega arith }, omega arith, omega arith)
-
-pub returns : goal.returns
-returns c =
-    let out = c.args.out.now in
-    let t = c.args.t.now in
-    let x = Done c.args.n c.args.steps c.args.refused in
-    let e = count_is t in
-    let long = eq-eqb (length t) (form_words Vectors) c.if-t-ne-TABLE_WORDS.false in
-    let few = le-leb (count t) nodes_most (omega arith) in
-    let h : has_nodes x t ≡ true = rw (long, few, le-leb c.args.n nodes_most c.if-n.false) in
-    wrote_as (text_whole out x t c.requires h) (omega arith) c.all_lines.ensures
+    nothing c.args.printer.now x t c.requires
+    (elim c.else-t-eq-TABLE_WORDS.branch [
+      | else-t-eq-TABLE_WORDS-via-then-t-eq-TABLE_WORDS+then-t-most+else-done-most w ↦
+          let long = eq-eqb (length t) (form_words Vectors) w.if-t-eq-TABLE_WORDS.true in
+          let few = le-leb (count t) nodes_most (omega arith) in
+          rw (long, few, lt-leb x.n nodes_most w.if-done-most.false)
+      | else-t-eq-TABLE_WORDS-via-then-t-eq-TABLE_WORDS+else-t-most w ↦
+          let long = eq-eqb (length t) (form_words Vectors) w.if-t-eq-TABLE_WORDS.true in
+          rw (long, lt-leb (count t) nodes_most (omega arith))
+      | else-t-eq-TABLE_WORDS-via-else-t-eq-TABLE_WORDS w ↦ rw (ne_eqb (length t) (form_words Vectors) w.if-t-eq-TABLE_WORDS.false)
+    ])

@@ -1,24 +1,18 @@
--- `row`: what is written so far is the row of the numbers passed so far.
-use mathlib.Core.Path.{refl, sym, ap, ◌∙◌}
+-- `row`: what is printed so far is the row of the numbers passed so far.
+use mathlib.Core.Path.{sym, ap, ◌∙◌}
 use native.Mathlib.Omega.{arith}
 use lib.ListN.{get_or, take}
-use lib.Seq.{take_all}
 use Rattle.meaning.specs.Journals.{spaced}
-use Rattle.printing.proofs.Writing.{wrote_none, wrote_as, wrote_then, take_more, spaced-none, spaced_more}
+use Rattle.printing.proofs.Writing.{take_more, spaced-none, spaced_more}
+use Rattle.printing.proofs.Printing.{printed_none, printed_then, printed_as}
 use Rattle.wording.proofs.row.Goals as goal
 
-pub loop-i-init : goal.loop-i-init
-loop-i-init c =
-    (omega arith, refl, wrote_as spaced-none (omega arith) (wrote_none c.args.out.now c.args.at 0))
+pub loop-v-init : goal.loop-v-init
+loop-v-init c = printed_as spaced-none (omega arith) (printed_none c.args.printer.now 0 (omega arith))
 
-pub loop-i-preserved : goal.loop-i-preserved
-loop-i-preserved c =
-    let l = c.loop-i in
+pub loop-v-preserved : goal.loop-v-preserved
+loop-v-preserved c =
+    let i = c.loop-v.v-index in
     let vs = c.args.vs.now in
-    let more = ap spaced (take_more vs l.i (omega arith)) ∙ spaced_more (take l.i vs) (get_or vs l.i 0) in
-    (omega arith, omega arith, wrote_as (sym more) (omega arith) (wrote_then (omega arith) l.invariant.2 c.entry-next.ensures))
-
-pub returns : goal.returns
-returns c =
-    let l = c.loop-i in
-    wrote_as (ap spaced (take_all l.i c.args.vs.now (omega arith))) (omega arith) l.invariant.2
+    let more = ap spaced (take_more vs i (omega arith)) ∙ spaced_more (take i vs) (get_or vs i 0) in
+    printed_as (sym more) (omega arith) (printed_then c.loop-v.invariant c.entry.ensures)

@@ -1,13 +1,9 @@
--- `row`: what is written so far is the row of the numbers passed so far.
-use mathlib.Core.Path.{◌≡◌}
-use Prim.Native.Nat.{◌*◌, ◌-◌, ◌≤◌}
-use lib.ListN.{length, take}
+-- `row`: what is printed so far is the row of the numbers passed so far.
+use Prim.Native.Nat.{◌*◌}
+use lib.ListN.{take}
 use Rattle.meaning.specs.Journals.{spaced}
-use Rattle.printing.specs.Wrote.{Wrote}
+use Rattle.printing.specs.Printed.{Printed}
 use Rattle.wording.proofs.row.Given as goal
 
-abbrev pub invariant-loop-i : goal.invariant-loop-i
-invariant-loop-i l = (l.i ≤ length l.vs) × (length l.out ≡ length l.initial.out) × Wrote l.initial.out l.at (spaced (take l.i l.vs)) (21 * l.i) l.next l.out
-
-abbrev pub decreases-loop-i : goal.decreases-loop-i
-decreases-loop-i l = length l.vs - l.i
+abbrev pub invariant-loop-v : goal.invariant-loop-v
+invariant-loop-v l = Printed l.initial.printer (spaced (take l.v-index l.vs)) (21 * l.v-index) l.printer

@@ -1,18 +1,12 @@
 -- `put_short` meets its contract: by what the line holds.
-use mathlib.Core.Path.{◌∙◌}
-use native.Mathlib.Omega.{arith}
-use Prim.Native.Nat.{◌<◌}
-use Rattle.meaning.proofs.FrameLaws.{clear}
-use Rattle.heads.specs.Heads.{no_line}
-use Rattle.heads.proofs.QuickLaws.{short_tells}
-use Rattle.six.proofs.SixLaws.{puts_is}
-use Rattle.words.proofs.WordLaws.{six_short}
+use mathlib.Core.Path.{sym, ◌∙◌}
+use Rattle.words.proofs.WordLaws.{short_put, short_refused}
 use Rattle.words.proofs.put_short.Goals as goal
+
+pub returns-in_default : goal.returns-in_default
+returns-in_default c =
+    short_refused c.args.s.now c.args.words.now (sym c.in_default.is ∙ c.short_held.ensures)
 
 pub returns : goal.returns
 returns c =
-    let s = c.args.s.now in
-    let held = c.short_held-held in
-    let small : held.result < no_line = omega arith in
-    puts_is s c.args.words.now c.put.new.words (clear s (short_tells s held.result held.ensures small).0)
-    (c.put.ensures ∙ six_short s held.result held.ensures c.requires.0 small)
+    short_put c.args.s.now c.in-Some.held c.requires.0 (sym c.in-Some.is ∙ c.short_held.ensures) c.args.words.now c.put.new.words c.put.ensures

@@ -1,6 +1,6 @@
 -- `pollencart_read_line` meets its contract: what the reader answers and leaves, handed on.
 use mathlib.Core.Path.{ap, ◌∙◌}
-use Rattle.answers.specs.Told.{fault_values}
+use Rattle.meaning.specs.Refusals.{fault_values}
 use Rattle.pollencart.proofs.framing.pollencart_read_line.Goals as goal
 
 pub returns : goal.returns

@@ -1,16 +1,11 @@
--- `table::act::write` meets its contract: 1 where the scan finds the table unsound, or what the action does.
-use mathlib.Core.Path.{sym, ap, ◌∙◌}
-use mathlib.Core.Bool.{not}
-use borrow.Author.Tests.{not-true, not-false}
-use Rattle.meaning.proofs.TableLaws.{sound_facts}
+-- `table::act::write` meets its contract: refused where the scan finds the table unsound, or what the action does.
+use Rattle.std.proofs.lemmas.Result.{err_from_is_err_and}
+use Rattle.meaning.specs.declared.Refusal.TheVariants.{Unsound}
 use Rattle.meaning.proofs.StepLaws.{refuse, unsound_refusal}
 use Rattle.table.proofs.act.write.Goals as goal
 
-pub returns-then-not-is_sound : goal.returns-then-not-is_sound
-returns-then-not-is_sound c = refuse _ _ 0 (unsound_refusal _ _ (sym c.is_sound.ensures ∙ not-true c.is_sound.result (ap not c.if-not-is_sound.true)))
-
-pub write-requires : goal.write-requires
-write-requires c = sound_facts _ (sym c.is_sound.ensures ∙ not-false c.is_sound.result (ap not c.if-not-is_sound.false))
-
-pub returns : goal.returns
-returns c = c.write.ensures
+pub returns-in_err-scanned : goal.returns-in_err-scanned
+returns-in_err-scanned c =
+    let p = err_from_is_err_and c.from_residual.result c.from_residual.ensures.1 in
+    let unsound = c.in_err-scanned.ensures.unsound in
+    rw (p.1, p.2, unsound.0) (refuse _ _ Unsound (unsound_refusal _ _ unsound.1))

@@ -1,22 +1,15 @@
--- `deliver` meets its contract: too few bytes, or the frame.
-use mathlib.Core.Path.{refl}
+-- `deliver` meets its contract: its frame is one of one byte.
+use Rattle.std.proofs.Common.{refl}
 use Rattle.meaning.specs.declared.Action.TheVariants.{Deliver}
 use Rattle.meaning.specs.Steps.{outcome_above}
 use Rattle.meaning.specs.Frames.{journal_kinds, widths_in, frame}
-use Rattle.meaning.proofs.FrameLaws.{framed_few, framed_full, length_deliver}
+use Rattle.writing.proofs.WriteLaws.{filled_wrote}
 use Rattle.writing.proofs.write.deliver.Goals as goal
 
-pub returns-then-out-lt7 : goal.returns-then-out-lt7
-unfolding outcome_above
-returns-then-out-lt7 c =
-    framed_few c.args.out.now (Deliver c.args.node) 7 refl (length_deliver c.args.node) c.if-out-lt7.true
-
-pub put_short-requires : goal.put_short-requires
+pub short-requires : goal.short-requires
 unfolding widths_in journal_kinds
-put_short-requires c = (refl, c.if-out-lt7.false)
+short-requires c = refl
 
 pub returns : goal.returns
 unfolding outcome_above frame
-returns c =
-    framed_full c.args.out.now c.put_short.new.out (Deliver c.args.node) 7 refl (length_deliver c.args.node)
-    c.if-out-lt7.false c.put_short.ensures
+returns c = filled_wrote c.args.out.now c.short.new.out (Deliver c.args.node) c.short.result refl c.short.ensures

@@ -1,20 +1,21 @@
 -- `write` meets its contract: too few bytes, or the frame.
-use mathlib.Core.Path.{refl}
+use Rattle.std.proofs.Common.{refl}
 use Rattle.meaning.specs.declared.Action.TheVariants.{Write}
 use Rattle.meaning.specs.Steps.{outcome_above}
-use Rattle.meaning.proofs.FrameLaws.{framed_few, framed_full, length_write}
+use Rattle.meaning.proofs.FrameLaws.{framed_full, length_write}
+use Rattle.std.proofs.lemmas.Result.{err_from_is_err_and}
+use Rattle.writing.proofs.WriteLaws.{wrote_few}
 use Rattle.writing.proofs.write.write.Goals as goal
 
-pub returns-then-out-lt25 : goal.returns-then-out-lt25
+pub returns-in_err-room : goal.returns-in_err-room
 unfolding outcome_above
-returns-then-out-lt25 c =
-    framed_few c.args.out.now (Write c.args.node c.args.timestamp c.args.block c.args.verdict) 25 refl
-    (length_write c.args.node c.args.timestamp c.args.block c.args.verdict) c.if-out-lt25.true
+returns-in_err-room c =
+    let p = err_from_is_err_and c.from_residual.result c.from_residual.ensures.1 in
+    rw (p.1, p.2) (wrote_few c.args.out.now (Write c.args.node c.args.timestamp c.args.block c.args.verdict) 25 _ refl
+    (length_write c.args.node c.args.timestamp c.args.block c.args.verdict) c.in_err-room.ensures.err)
 
 pub returns : goal.returns
 unfolding outcome_above
 returns c =
-    framed_full c.args.out.now c.put_write.new.out
-    (Write c.args.node c.args.timestamp c.args.block c.args.verdict) 25 refl
-    (length_write c.args.node c.args.timestamp c.args.block c.args.verdict)
-    c.if-out-lt25.false c.put_write.ensures
+    framed_full c.args.out.now c.put_write.new.out (Write c.args.node c.args.timestamp c.args.block c.args.verdict) 25 refl
+    (length_write c.args.node c.args.timestamp c.args.block c.args.verdict) c.in_ok-room.ensures.ok c.put_write.ensures

@@ -1,7 +1,0 @@
--- `number` is `digits` with the definition's 20.
-use Rattle.meaning.specs.Journals.{decimal}
-use Rattle.printing.proofs.number.Goals as goal
-
-pub returns : goal.returns
-unfolding decimal
-returns c = c.digits.ensures
