@@ -1,2 +1,3 @@
 pub mod OneReply
 pub mod ValueLaws
+pub mod ToldNumbers

@@ -8,7 +8,6 @@ ghost use Rattle.std.specs.Prelude.{◌≤◌, ◌<◌, length};
 
 use crate::{say, walk};
 use meaning::{Reply, Report, Said};
-use std::io;
 
 // What stands before the first such byte and what stands after it, all and nothing where it is not there.
 fn cut(s: &[u8], byte: u8) -> (&[u8], &[u8])
@@ -34,29 +33,28 @@ fn apply(t: &mut [u32], frame: &[u8]) -> Reply {
 }
 
 // A frame applied, and what it replied.
-fn said(rt: &HostRuntime, t: &mut [u32], case: &[u8]) -> io::Result<()> {
+fn said(rt: &HostRuntime, t: &mut [u32], case: &[u8]) {
     let (frame, name) = cut(case, b' ');
     let before = say::digest(t);
     let r = apply(t, frame);
-    say::reply(rt, t, name, r, before)
+    say::reply(rt, t, name, r, before);
 }
 
 // One case that stands on a line.
-fn line(rt: &HostRuntime, t: &mut [u32], case: &[u8]) -> io::Result<()> {
+fn line(rt: &HostRuntime, t: &mut [u32], case: &[u8]) {
     match case {
         [b'=', frame @ ..] => {
             let _ = apply(t, frame);
-            Ok(())
         }
         [b'+', rest @ ..] => said(rt, t, rest),
         [b'?', bytes @ ..] => say::frame(rt, bytes),
-        _ => Ok(()),
+        _ => {}
     }
 }
 
 // Every case, in order. A journal's name stands on its line, and the journal from the next one on, up to a `.`: a turn takes one piece or two, so
 // this is no `for`.
-pub(crate) fn all(rt: &HostRuntime, t: &mut [u32], cases: &[u8]) -> io::Result<()> {
+pub(crate) fn all(rt: &HostRuntime, t: &mut [u32], cases: &[u8]) {
     let mut rest = cases;
     while !rest.is_empty() {
         let (case, after) = cut(rest, b'\n');
@@ -64,11 +62,10 @@ pub(crate) fn all(rt: &HostRuntime, t: &mut [u32], cases: &[u8]) -> io::Result<(
         match case {
             [b'>', name @ ..] => {
                 let (journal, after) = cut(rest, b'.');
-                walk::journal(rt, name, journal)?;
+                walk::journal(rt, name, journal);
                 rest = after;
             }
-            _ => line(rt, t, case)?,
+            _ => line(rt, t, case),
         }
     }
-    Ok(())
 }

@@ -3,11 +3,10 @@ ghost use Rattle.std.specs.Prelude.{◌≤◌, ◌<◌};
 ghost use Rattle.meaning.specs.Table.{nodes_most};
 
 use meaning::{Fault, Reply, Report};
-use std::io;
 
-// Bytes as they are.
-pub(crate) fn text(rt: &HostRuntime, bytes: &[u8]) -> io::Result<()> {
-    rt.stdout().write_all(bytes)
+// Bytes as they are. A write that fails, here and below, is passed over, and the next one is tried: what the program printed is compared.
+pub(crate) fn text(rt: &HostRuntime, bytes: &[u8]) {
+    let _ = rt.stdout().write_all(bytes);
 }
 
 // A number of all the words: it differs where one word differs.
@@ -36,12 +35,11 @@ fn held_by(t: &[u32], p: usize) -> u32
 }
 
 // Each node's held number.
-fn held(rt: &HostRuntime, t: &[u32]) -> io::Result<()> {
+fn held(rt: &HostRuntime, t: &[u32]) {
     for p in 0..nodes(t) {
         let held = held_by(t, p);
-        print!(rt; " {held}")?;
+        let _ = print!(rt; " {held}");
     }
-    Ok(())
 }
 
 // The refusal number of a reply, 0 for none, and its two counts.
@@ -56,47 +54,42 @@ fn values(r: Reply) -> (u32, u32, u32) {
 }
 
 // One line: the case, the reply's values, each node's held number, and the number of all the words. It says so if a refused step changed a word.
-pub(crate) fn reply(
-    rt: &HostRuntime,
-    t: &[u32],
-    name: &[u8],
-    r: Reply,
-    before: u64,
-) -> io::Result<()> {
+pub(crate) fn reply(rt: &HostRuntime, t: &[u32], name: &[u8], r: Reply, before: u64) {
     let (number, first, second) = values(r);
     let words = digest(t);
-    text(rt, name)?;
-    print!(rt; ": refusal {number} counts {first} {second} held")?;
-    held(rt, t)?;
-    println!(rt; " words {words}")?;
+    text(rt, name);
+    let _ = print!(rt; ": refusal {number} counts {first} {second} held");
+    held(rt, t);
+    let _ = println!(rt; " words {words}");
     if r.is_err() && words != before {
-        println!(rt; "a refused step changed the table")?;
+        let _ = println!(rt; "a refused step changed the table");
     }
-    Ok(())
 }
 
 // Making a table of n nodes of these words.
-pub(crate) fn fresh(rt: &HostRuntime, t: &mut [u32], name: &[u8], n: u32) -> io::Result<()> {
+pub(crate) fn fresh(rt: &HostRuntime, t: &mut [u32], name: &[u8], n: u32) {
     let before = digest(t);
     let made = table::fresh(t, n).map(|_| Report::Written);
-    reply(rt, t, name, made, before)
+    reply(rt, t, name, made, before);
 }
 
 // A refusal, and its place in the line.
-pub(crate) fn refusal(rt: &HostRuntime, fault: Fault) -> io::Result<()> {
+pub(crate) fn refusal(rt: &HostRuntime, fault: Fault) {
     let number = u32::from(fault.refusal);
     let at = fault.place;
-    print!(rt; "refusal {number} at {at}")
+    let _ = print!(rt; "refusal {number} at {at}");
 }
 
 // A single line, given to the frame reader: the refusal and its place, or none.
-pub(crate) fn frame(rt: &HostRuntime, name: &[u8]) -> io::Result<()> {
-    print!(rt; "line ")?;
-    text(rt, name)?;
-    print!(rt; ": ")?;
+pub(crate) fn frame(rt: &HostRuntime, name: &[u8]) {
+    let _ = print!(rt; "line ");
+    text(rt, name);
+    let _ = print!(rt; ": ");
     match reading::read_line(name, 1) {
-        Ok(_) => print!(rt; "refusal 0")?,
-        Err(fault) => refusal(rt, fault)?,
+        Ok(_) => {
+            let _ = print!(rt; "refusal 0");
+        }
+        Err(fault) => refusal(rt, fault),
     }
-    println!(rt; "")
+    let _ = println!(rt; "");
 }

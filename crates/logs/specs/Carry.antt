@@ -3,7 +3,6 @@
 use Rattle.std.specs.Prelude.{◌≡◌, Bool, true, false, not, List, [], ◌∷◌, ℕ, suc, ◌+◌, ◌*◌, ◌≤◌, ◌<◌, length, Option, Some, None}
 use Rattle.meaning.specs.declared.Record.{Record}
 use Rattle.meaning.specs.Rows.{newer, keep, record_at, records, words, all}
-use Rattle.records.specs.Tests.{rows}
 use Rattle.meaning.specs.Table.{log_most, part, place, record_sound}
 
 -- the first `held` records of the log at `from`, and one of its records
@@ -33,9 +32,16 @@ abbrev pub FirstTold : (Record → Bool) → ℕ → List ℕ → Option ℕ →
 FirstTold leaves held w None = FirstLeaving leaves held w held
 FirstTold leaves held w (Some r) = (r < held) × FirstLeaving leaves held w r
 
--- Rows of a log of which the first is of a record that leaves
-pub record Closes (leaves : Record → Bool) (w : List ℕ) : Type 0 where
-  pub some : 0 < rows w
+-- The first so many of the rows that are lent: a test may be asked of the record of each, and it answers there what a rule says
+abbrev pub AskableIn : ℕ → (Record → Type 0) → List ℕ → Type 0
+AskableIn held pre w = (i : ℕ) → i < held → pre (record_at w i)
+
+abbrev pub FollowsIn : ℕ → (Record → Bool → Type 0) → (Record → Bool) → List ℕ → Type 0
+FollowsIn held post rule w = (i : ℕ) (b : Bool) → i < held → post (record_at w i) b → b ≡ rule (record_at w i)
+
+-- So many rows of a log, of which the first is of a record that leaves
+pub record Closes (leaves : Record → Bool) (held : ℕ) (w : List ℕ) : Type 0 where
+  pub some : 0 < held
   pub first : leaves (record_at w 0) ≡ true
 
 -- The rows that closing up stores, in order, `k` being the next one free: a record that leaves stores none, one that stays goes to that row

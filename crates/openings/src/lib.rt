@@ -8,7 +8,7 @@ ghost use Rattle.openings.specs.Begun.{alone, crowds, Shows, Starts};
 
 use arrivals::newer_count;
 use looks::SoundTable;
-use rows::least_with;
+use rows::{copy_row, least_with};
 
 // What a node's clock reads as a session begins.
 #[derive(Clone, Copy)]
@@ -57,7 +57,7 @@ fn row_with(row: &mut [u32; layout::NODES_MOST], t: &[u32], at: usize, i: usize,
     ensures { row.new ≡ set (part at nodes_most t.now) i v }
 {
     let end = at + layout::NODES_MOST;
-    row.copy_from_slice(&t[at..end]);
+    copy_row(&mut row[..], &t[at..end]);
     row[i] = v;
 }
 

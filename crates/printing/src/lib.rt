@@ -31,10 +31,13 @@ impl<'a> Printer<'a> {
         if most == 0 {
             return;
         }
-        if v >= 10 {
-            self.digits(most - 1, v / 10);
+        // One digit ends here: told after the call instead, a number of one digit takes twice as many instructions.
+        if v < 10 {
+            return self.put(b'0' + (v % 10) as u8);
         }
-        self.put(b'0' + (v % 10) as u8);
+        self.digits(most - 1, v / 10);
+        let low = (v % 10) as u8;
+        self.put(b'0' + low);
     }
 
     // A number in decimal: 20 digits are enough for every one.

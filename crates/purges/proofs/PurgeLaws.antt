@@ -16,7 +16,7 @@ use Rattle.meaning.specs.declared.Report.TheVariants.{Purged}
 use Rattle.meaning.specs.declared.Action.TheVariants.{Purge}
 use Rattle.meaning.specs.Rows.{all, covers, lowest, record_at, records}
 use Rattle.meaning.specs.Table.{Form, Vectors, Columns, form_of, acks_at, acks_wide, part, count, mark, held, node}
-use Rattle.meaning.specs.Table.{log_most, record_sound, Sound, sound, Shaped}
+use Rattle.meaning.specs.Table.{log_most, record_sound, Sound, sound, Shaped, Node, put_node}
 use Rattle.meaning.specs.Node.{purged, leaves}
 use Rattle.meaning.specs.Steps.{Reply, on_columns, limit, leaving, lagging, acted, reported}
 use Rattle.meaning.proofs.PlaceLaws.{part_lent, length_part, get_d_part}
@@ -71,6 +71,15 @@ module _ (t : List ℕ) (s : Sound t) (p : ℕ) where
     bars_long bars e =
         let wide = fits.columns_long in
         ap length e ∙ length-lowest (count t) (node t p).columns (omega arith) fits.column_long
+
+  -- what was dropped by a test is what another drops that leaves the same node
+  pub dropped_as :
+      {f g : Record → Bool} {left : ℕ} {u : List ℕ} → Dropped t p f left u → purged f (node t p) ≡ purged g (node t p) → Dropped t p g left u
+  dropped_as dropped same =
+      record {
+        many = dropped.many ∙ ap (λ (x : Node). length x.log) same;
+        puts = dropped.puts ∙ ap (λ (x : Node). put_node p x t) same;
+      }
 
   pub absent : (n : ℕ) → n ≡ count t → n ≤ p → Applied t (Purge p) (Err NodeAbsent) t
   absent n e h = refuse t (Purge p) NodeAbsent (purge_is_3 t s p (omega arith))

@@ -77,6 +77,9 @@ fn first_of<F: Fn(Record) -> bool>(t: &[u32], p: usize, held: usize, goes: F) ->
 
 // "Every held record whose timestamp is at most [its bar] leaves. The rest close up in their order": how many are left. What moves rows is lent only
 // those from the first record that leaves to the last held: no row before it can be written.
+// Compiled by itself by a measure: within its caller, where it begins was worked out anew at each row of the search for the first that goes, and a
+// journal's purge of none on 16 nodes took 465 instructions a line, where it takes 332.
+#[inline(never)]
 fn close_log<F: Fn(Record) -> bool>(
     t: &mut [u32],
     p: usize,
@@ -201,7 +204,8 @@ pub fn purge_alone(t: &mut SoundTable, node: u8) -> Result<(), Refusal>
         return Err(Refusal::NodeAbsent);
     }
     let held = t.held(p);
-    if has_columns(t) {
+    let columns = has_columns(t);
+    if columns {
         let _cut = cut_of(t, p, nodes, held);
         return Ok(());
     }

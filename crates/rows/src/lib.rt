@@ -29,6 +29,17 @@ pub fn least_with(row: &[u32], i: usize, v: u32) -> Least
     Least { value: low, at }
 }
 
+// Fills a row with, entry by entry, the greater of two rows.
+fn fill_raised(row: &mut [u32], mine: &[u32], theirs: &[u32])
+    requires { (length mine.now ≡ length row.old) × (length theirs.now ≡ length row.old) }
+    ensures { row.new ≡ raise mine.now theirs.now }
+{
+    // The three rows zipped would take twice as long (15 ns and not 8 at 16 entries).
+    for (i, word) in row.iter_mut().enumerate() {
+        *word = mine[i].max(theirs[i]);
+    }
+}
+
 // Puts one word.
 pub fn put_word(t: &mut [u32], at: usize, v: u32)
     requires { at < length t.old }
@@ -66,8 +77,5 @@ pub fn put_raised(t: &mut [u32], at: usize, mine: &[u32], theirs: &[u32])
     ensures { t.new ≡ place at (raise mine.now theirs.now) t.old }
 {
     let end = at + mine.len();
-    // The three rows zipped would take twice as long (15 ns and not 8 at 16 entries).
-    for (i, word) in t[at..end].iter_mut().enumerate() {
-        *word = mine[i].max(theirs[i]);
-    }
+    fill_raised(&mut t[at..end], mine, theirs);
 }

@@ -20,6 +20,7 @@ pub fn put(words: &mut [u32], values: [u32; 6])
 }
 
 // A write's six words, by its digits' numbers.
+#[inline(always)]
 fn put_written(v: &[u8], words: &mut [u32])
     requires { Joins v.now 0 12 × (length words.old ≡ 6) }
     ensures { words.new ≡ write_words v.now }
@@ -37,7 +38,8 @@ fn put_written(v: &[u8], words: &mut [u32])
     );
 }
 
-// 24 characters: a write's, or none.
+// 24 characters: a write's, or none. It is compiled into its callers, with what it calls: called, it cost a write's line 195 instructions for 191.
+#[inline(always)]
 #[tactic(auto, using(crate::proofs::SixLaws::write_lacks))]
 pub fn put_write(s: &[u8], words: &mut [u32]) -> bool
     requires { (length s.now ≡ 24) × (length words.old ≡ 6) }

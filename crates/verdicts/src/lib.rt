@@ -107,7 +107,8 @@ impl Counts {
 }
 
 // The count over whole records, in one pass from the last to the first. It has no early end: the verdicts' bits are gathered, and a verdict is
-// above 255 where what they make is.
+// above 255 where what they make is. A `while` over the words' end: a record that is not scrubbed takes seven instructions so, nine in a `for` over the
+// numbers from 1, eleven in one over the rows from 0, and eight by `split_last_chunk`.
 fn count_records(words: &[u32]) -> Count
     requires { (length words.now % 4 ≡ 0) × (length words.now ≤ 4 * log_most) }
     ensures { result ≡ verdict_count words.now }
@@ -118,10 +119,13 @@ fn count_records(words: &[u32]) -> Count
         touched: 0,
     };
     let mut seen: u32 = 0;
-    for number in (1..=words.len() / RECORD_WORDS).rev() {
-        let verdict = words[4 * number - 1];
+    let mut end = words.len();
+    while 0 < end {
+        let verdict = words[end - 1];
         seen |= verdict;
+        let number = end / RECORD_WORDS;
         counts.count_record(words, &mut chains, number, (verdict % 256) as u8);
+        end -= RECORD_WORDS;
     }
     if 255 < seen {
         return Err(Refusal::Unsound);

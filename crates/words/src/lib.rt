@@ -9,6 +9,7 @@ use meaning::{Fault, Refusal};
 use six::put;
 
 // Fewer characters than a write's: a start's, a purge's, a delivery's, or none.
+#[inline(always)]
 fn put_short(s: &[u8], words: &mut [u32]) -> bool
     requires { (length s.now < 24) × (length words.old ≡ 6) }
     ensures { Puts s.now words.old result words.new }
@@ -21,6 +22,7 @@ fn put_short(s: &[u8], words: &mut [u32]) -> bool
 }
 
 // Any line: whether it is accepted, and then its six words.
+#[inline(always)]
 fn put_sure(s: &[u8], words: &mut [u32]) -> bool
     requires { length words.old ≡ 6 }
     ensures { Puts s.now words.old result words.new }
@@ -48,6 +50,9 @@ fn few(s: &[u8]) -> Fault
 
 // A line read in one call: what is wrong with it as `reading::check` tells it, and after that too few words where fewer than six are lent. An accepted
 // line's kind and its fields go into the first six words, 0 where the kind has no such field; a refused line changes none.
+// It and what it calls are compiled into its two callers, so that no Option of a fault is copied through memory (measured on x86-64, an empty line's
+// refusal: 19 ns with the copy, 8 without; a start: 13.5 and 12.1).
+#[inline(always)]
 #[tactic(auto, using(crate::proofs::WordLaws::few_told, crate::proofs::WordLaws::few_kept, heads::proofs::HeadLaws::whole_part))]
 pub fn read_words(s: &[u8], words: &mut [u32]) -> Option<Fault>
     ensures { ReadWords s.now words.old result words.new }

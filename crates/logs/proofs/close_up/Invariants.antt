@@ -4,8 +4,7 @@ use Rattle.std.proofs.Common.{◌≡◌, Bool, List, ℕ, ◌*◌, ◌≤◌, �
 use Rattle.meaning.specs.declared.Record.{Record}
 use Rattle.meaning.specs.Rows.{records, words}
 use Rattle.meaning.specs.Table.{place}
-use Rattle.records.specs.Tests.{rows, Follows}
-use Rattle.logs.specs.Carry.{stay, Closes}
+use Rattle.logs.specs.Carry.{stay, Closes, FollowsIn}
 use Rattle.logs.proofs.close_up.Given as goal
 
 -- the log with its first i rows closed up
@@ -15,9 +14,9 @@ closed leaves i w = place 0 (words (stay leaves (records i w))) w
 abbrev pub invariant-loop-row : goal.invariant-loop-row
 invariant-loop-row g l = record {
   free : l.kept < l.row;
-  few : l.kept ≤ rows l.initial.tail;
+  few : l.kept ≤ l.held;
   long : length l.tail ≡ length l.initial.tail;
   rest : (m : ℕ) → 4 * l.row ≤ m → get_or l.tail m 0 ≡ get_or l.initial.tail m 0;
-  done : (rule : Record → Bool) → Follows (λ r b. goal.F-post g l.goes r b) rule l.initial.tail → Closes rule l.initial.tail →
+  done : (rule : Record → Bool) → FollowsIn l.held (λ r b. goal.F-post g l.goes r b) rule l.initial.tail → Closes rule l.held l.initial.tail →
       (l.kept ≡ length (stay rule (records l.row l.initial.tail))) × (l.tail ≡ closed rule l.row l.initial.tail);
 }

@@ -12,4 +12,4 @@ changed t w at i v e = ap (λ (z : List ℕ). set z i v) (e ∙ part_lent at nod
 
 pub returns : goal.returns
 returns c =
-    changed c.args.t.now c.copy_from_slice.new.self c.args.at c.args.i c.args.v c.copy_from_slice.ensures.after
+    changed c.args.t.now c.copy_row.new.to c.args.at c.args.i c.args.v c.copy_row.ensures

@@ -13,8 +13,7 @@ use Rattle.meaning.specs.Steps.{leaving}
 use Rattle.meaning.proofs.PlaceLaws.{mid_place, place_inner, place-append, place-part, length-place, length_part, get_d_part}
 use Rattle.meaning.proofs.PutLaws.{words-records, part-part}
 use Rattle.meaning.proofs.RowLaws.{length-keep, length-words, length-records, words_append, record_at_agree}
-use Rattle.records.specs.Tests.{rows, all_records, Askable, Follows}
-use Rattle.logs.specs.Carry.{Puts, stay, FirstLeaving, Closes}
+use Rattle.logs.specs.Carry.{Puts, stay, FirstLeaving, Closes, AskableIn, FollowsIn}
 use Rattle.logs.proofs.MoveLaws.{records_from, stay_from}
 use Rattle.purges.specs.Dropped.{log_from, log_of, held_rows, Drops, Closed}
 use Rattle.purges.proofs.PurgeLaws.{log_inside, held_record, held_rows_are}
@@ -61,31 +60,25 @@ module _
         ap (λ (m : ℕ). records m (log_of p t)) e ∙ records_from f (k - f) (log_of p t) (lent t at f k) same
 
     -- each row lent is one of those that hold records
-    lent_rows : rows (lent t at f k) ≡ k - f
-    lent_rows = let l = lent_long in omega arith
-
     row : (i : ℕ) → i < k - f → record_at (lent t at f k) i ≡ record_at (held_rows p k t) (f + i)
     row i h =
         record_at_agree (lent t at f k) (log_of p t) i (f + i)
         (λ j g. same (4 * i + j) (omega arith) ∙ ap (λ (m : ℕ). get_or (log_of p t) m 0) (omega arith)) ∙
         sym (held_record t d.is_sound p k d.there d.room (f + i) (omega arith))
 
-    askable : Askable pre (lent t at f k)
+    askable : AskableIn (k - f) pre (lent t at f k)
     askable i h =
-        let l = lent_rows in
         let r = held_rows_are t d.is_sound p k d.there d.room in
         rw (row i (omega arith)) (d.askable (f + i) (omega arith))
 
-    follows : Follows post leaves (lent t at f k)
+    follows : FollowsIn (k - f) post leaves (lent t at f k)
     follows i b h said =
-        let l = lent_rows in
         let r = held_rows_are t d.is_sound p k d.there d.room in
         let e = row i (omega arith) in
         rw e (d.follows (f + i) b (omega arith) (rw (← e) said))
 
-    closes : Closes leaves (lent t at f k)
+    closes : Closes leaves (k - f) (lent t at f k)
     closes =
-        let l = lent_rows in
         let e : record_at (lent t at f k) 0 ≡ record_at (log_of p t) f =
         record_at_agree (lent t at f k) (log_of p t) 0 f (λ j g. ap (λ (m : ℕ). get_or (lent t at f k) m 0) (omega arith) ∙ same j (omega arith))
         in
@@ -142,13 +135,9 @@ module _
         ap (λ (x : List ℕ). place (log_from p t) x t) (sym (words_append (records f (log_of p t)) rs)) ∙
         ap (λ (x : List Record). place (log_from p t) (words x) t) (sym split)
 
-    done : (n : ℕ) (w : List ℕ) → n ≤ rows (lent t at f k) → Puts 0 (stay leaves (all_records (lent t at f k))) (lent t at f k) n w →
+    done : (n : ℕ) (w : List ℕ) → n ≤ k - f → Puts 0 (stay leaves (records (k - f) (lent t at f k))) (lent t at f k) n w →
         Closed t p leaves (f + n) (take (at + 4 * f) t ++ (w ++ drop ((at + 4 * k) - (at + 4 * f)) (drop (at + 4 * f) t))) × (f + n ≤ k)
-    done n w few put =
-        let l = lent_rows in
-        let e : all_records (lent t at f k) ≡ records (k - f) (lent t at f k) = ap (λ (m : ℕ). records m (lent t at f k)) l in
-        let g : Puts 0 (stay leaves (records (k - f) (lent t at f k))) (lent t at f k) n w = rw e at put in
-        (record { many = (many n g.many).0; leaves = closed w g.leaves }, omega arith)
+    done n w few put = (record { many = (many n put.many).0; leaves = closed w put.leaves }, omega arith)
 
 pub close_up-requires : goal.close_up-requires
 close_up-requires g c =
@@ -157,14 +146,13 @@ close_up-requires g c =
     let e = c.log_at-at.ensures in
     record {
       askable = askable c.args.t.now c.args.p c.args.held _ _ drops.0 c.log_at-at.result c.args.first e drops.1 found;
-      all = sym (lent_rows c.args.t.now c.args.p c.args.held _ _ drops.0 c.log_at-at.result c.args.first e drops.1 found);
+      inside = let l = lent_long c.args.t.now c.args.p c.args.held _ _ drops.0 c.log_at-at.result c.args.first e drops.1 found in omega arith;
     }
 
 pub overflow_add-result : goal.overflow_add-result
 overflow_add-result g c =
     let drops = c.requires.drops in
     let few = c.close_up.ensures.few in
-    let l = lent_rows c.args.t.now c.args.p c.args.held _ _ drops.0 c.log_at-at.result c.args.first c.log_at-at.ensures drops.1 c.requires.first_leaving in
     omega arith
 
 pub returns : goal.returns

@@ -12,7 +12,7 @@ pub drop_rows-left-requires : goal.drop_rows-left-requires
 drop_rows-left-requires c =
     let t = c.args.t.now.words.now in
     let s : Sound t = sound_facts t c.args.t.now.is_sound in
-    let form : form_of t ≡ Vectors = vectors_form (form_of t) c.has_columns.result c.has_columns.ensures (search rules) in
+    let form : form_of t ≡ Vectors = vectors_form (form_of t) c.has_columns-columns.result c.has_columns-columns.ensures (search rules) in
     record {
       is_sound = s;
       there = omega arith;
@@ -30,8 +30,8 @@ returns-then-nodes-p-clause-done c =
     let t = c.args.t.now.words.now in
     absent_alone t (sound_facts t c.args.t.now.is_sound) c.args.node c.nodes-nodes.result c.nodes-nodes.ensures.0 c.if-nodes-p.true
 
-pub returns-then-has_columns-clause-done : goal.returns-then-has_columns-clause-done
-returns-then-has_columns-clause-done c =
+pub returns-then-columns-clause-done : goal.returns-then-columns-clause-done
+returns-then-columns-clause-done c =
     let t = c.args.t.now.words.now in
     done_alone t (sound_facts t c.args.t.now.is_sound) c.args.node c.cut_of-cut.ensures.done.dropped c.nodes-nodes.result
     c.nodes-nodes.ensures.0 c.if-nodes-p.false
