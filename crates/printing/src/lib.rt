@@ -2,9 +2,29 @@
 // Each method writes at the printer's place and leaves there the place after what it wrote; its caller shows that there is room.
 #![tactic(auto)]
 
-ghost use Rattle.std.specs.Prelude.{[], ◌∷◌};
+ghost use Rattle.std.specs.Prelude.{[], ◌∷◌, ◌+◌, ◌≤◌, length};
 ghost use Rattle.meaning.specs.Journals.{decimal_in, decimal, spaced};
 ghost use Rattle.printing.specs.Printed.{Printed, Room};
+ghost use Rattle.printing.specs.Wrote.{Wrote};
+
+// A number in decimal at a place of a buffer, of at most so many digits, the higher ones first, and the place after it.
+// Over a place of its own: a printer's place would go through memory at each digit.
+fn digits(out: &mut [u8], at: usize, most: usize, v: usize) -> usize
+    requires { at + most ≤ length out.old }
+    ensures { Wrote out.old at (decimal_in most v) most result out.new }
+{
+    if most == 0 {
+        return at;
+    }
+    // One digit ends here: put after the call instead, a number of one digit takes twice as many instructions.
+    if v < 10 {
+        out[at] = b'0' + (v % 10) as u8;
+        return at + 1;
+    }
+    let end = digits(out, at, most - 1, v / 10);
+    out[end] = b'0' + (v % 10) as u8;
+    end + 1
+}
 
 // A lent buffer and the place in it where the next byte goes.
 #[derive(Drop)]
@@ -23,29 +43,12 @@ impl<'a> Printer<'a> {
         self.at += 1;
     }
 
-    // A number in decimal, of at most so many digits, the higher ones first.
-    fn digits(&mut self, most: usize, v: usize)
-        requires { Room self.old most }
-        ensures { Printed self.old (decimal_in most v) most self.new }
-    {
-        if most == 0 {
-            return;
-        }
-        // One digit ends here: told after the call instead, a number of one digit takes twice as many instructions.
-        if v < 10 {
-            return self.put(b'0' + (v % 10) as u8);
-        }
-        self.digits(most - 1, v / 10);
-        let low = (v % 10) as u8;
-        self.put(b'0' + low);
-    }
-
     // A number in decimal: 20 digits are enough for every one.
     pub fn number(&mut self, v: usize)
         requires { Room self.old 20 }
         ensures { Printed self.old (decimal v) 20 self.new }
     {
-        self.digits(20, v);
+        self.at = digits(self.out, self.at, 20, v);
     }
 
     // A number with a space before it.

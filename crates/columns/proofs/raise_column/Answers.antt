@@ -60,41 +60,40 @@ module _ (t sq : List ℕ) (p q k : ℕ) (r : Raises t p q (length sq) sq) (h : 
       ap (λ (z : List ℕ). place (column_at p k) z t) e ∙
       ap (λ (z : List ℕ). place (column_at p k) (raise (part (column_at p k) (length sq) t) z) t) (sym (other_there apart))
 
-  -- the table split where the column of q begins, and where that of p does
+  -- the table split where the column of q begins, and where that of p does; wherever the rows lent are said to end
   by_front :
-      (to from : ℕ) (f b w : List ℕ) → to ≡ column_at p k → from ≡ column_at q k → (k ≡ q → ⊥) → p < q → f ≡ take from t → b ≡ drop from t →
-      w ≡ raise (take ((to + length sq) - to) (drop to f)) (take (length sq) b) →
-      (take to f ++ (w ++ drop ((to + length sq) - to) (drop to f))) ++ b ≡
-      raised_by (length sq) (column_at p k) (get_or (brought (length sq) q sq t) k []) t
-  by_front to from f b w e g apart less ef eb is =
+      {end m : ℕ} (to from : ℕ) (f b w : List ℕ) → to ≡ column_at p k → from ≡ column_at q k → (k ≡ q → ⊥) → p < q → f ≡ take from t → b ≡ drop from t →
+      end ≡ to + length sq → m ≡ length sq → w ≡ raise (take (end - to) (drop to f)) (take m b) →
+      (take to f ++ (w ++ drop (end - to) (drop to f))) ++ b ≡ raised_by (length sq) (column_at p k) (get_or (brought (length sq) q sq t) k []) t
+  by_front {end = end} {m = m} to from f b w e g apart less ef eb ends wide is =
       let few = r.few in
       let room = fits q r.theirs in
-      let mine : take ((to + length sq) - to) (drop to f) ≡ part (column_at p k) (length sq) t =
-      part_there f to (column_at p k) (length sq) e ∙ ap (part (column_at p k) (length sq)) ef ∙
+      let mine : take (end - to) (drop to f) ≡ part (column_at p k) (length sq) t =
+      ap (λ (z : ℕ). take (z - to) (drop to f)) ends ∙ part_there f to (column_at p k) (length sq) e ∙ ap (part (column_at p k) (length sq)) ef ∙
       part_front from (column_at p k) (length sq) t (omega arith) in
-      let theirs : take (length sq) b ≡ part (column_at q k) (length sq) t =
-      ap (take (length sq)) eb ∙ part_back from (length sq) t ∙ ap (λ (m : ℕ). part m (length sq) t) g in
+      let theirs : take m b ≡ part (column_at q k) (length sq) t =
+      ap₂ take wide eb ∙ part_back from (length sq) t ∙ ap (λ (z : ℕ). part z (length sq) t) g in
       let same = is ∙ ap₂ raise mine theirs in
       let l = raised w (part (column_at q k) (length sq) t) same (length_part (column_at q k) (length sq) t room) in
-      ap₂ (λ (x y : List ℕ). x ++ y) (mid_place to ((to + length sq) - to) f w (omega arith) ∙ ap₂ (λ (m : ℕ) (z : List ℕ). place m w z) e ef) eb ∙
+      ap₂ (λ (x y : List ℕ). x ++ y) (mid_place to (end - to) f w (omega arith) ∙ ap₂ (λ (z : ℕ) (x : List ℕ). place z w x) e ef) eb ∙
       put_front from (column_at p k) w t (omega arith) (omega arith) ∙ by_other w apart same
 
   by_back :
-      (to from : ℕ) (f b w : List ℕ) → to ≡ column_at p k → from ≡ column_at q k → (k ≡ q → ⊥) → q < p → f ≡ take to t → b ≡ drop to t →
-      w ≡ raise (take (length sq) b) (take ((from + length sq) - from) (drop from f)) →
-      f ++ (w ++ drop (length sq) b) ≡ raised_by (length sq) (column_at p k) (get_or (brought (length sq) q sq t) k []) t
-  by_back to from f b w e g apart less ef eb is =
+      {end m : ℕ} (to from : ℕ) (f b w : List ℕ) → to ≡ column_at p k → from ≡ column_at q k → (k ≡ q → ⊥) → q < p → f ≡ take to t → b ≡ drop to t →
+      end ≡ from + length sq → m ≡ length sq → w ≡ raise (take m b) (take (end - from) (drop from f)) →
+      f ++ (w ++ drop m b) ≡ raised_by (length sq) (column_at p k) (get_or (brought (length sq) q sq t) k []) t
+  by_back {end = end} {m = m} to from f b w e g apart less ef eb ends wide is =
       let few = r.few in
       let room = fits q r.theirs in
-      let mine : take (length sq) b ≡ part (column_at p k) (length sq) t =
-      ap (take (length sq)) eb ∙ part_back to (length sq) t ∙ ap (λ (m : ℕ). part m (length sq) t) e in
-      let theirs : take ((from + length sq) - from) (drop from f) ≡ part (column_at q k) (length sq) t =
-      part_there f from (column_at q k) (length sq) g ∙ ap (part (column_at q k) (length sq)) ef ∙
+      let mine : take m b ≡ part (column_at p k) (length sq) t =
+      ap₂ take wide eb ∙ part_back to (length sq) t ∙ ap (λ (z : ℕ). part z (length sq) t) e in
+      let theirs : take (end - from) (drop from f) ≡ part (column_at q k) (length sq) t =
+      ap (λ (z : ℕ). take (z - from) (drop from f)) ends ∙ part_there f from (column_at q k) (length sq) g ∙ ap (part (column_at q k) (length sq)) ef ∙
       part_front to (column_at q k) (length sq) t (omega arith) in
       let same = is ∙ ap₂ raise mine theirs in
       let l = raised w (part (column_at q k) (length sq) t) same (length_part (column_at q k) (length sq) t room) in
-      ap₂ (λ (x y : List ℕ). x ++ (w ++ drop (length sq) y)) ef eb ∙ mid_place to (length sq) t w l ∙ ap (λ (m : ℕ). place m w t) e ∙
-      by_other w apart same
+      ap₂ (λ (x y : List ℕ). x ++ (w ++ drop m y)) ef eb ∙ ap (λ (z : ℕ). take to t ++ (w ++ drop z (drop to t))) wide ∙ mid_place to (length sq) t w l ∙
+      ap (λ (z : ℕ). place z w t) e ∙ by_other w apart same
 
 pub returns-then-k-q : goal.returns-then-k-q
 returns-then-k-q c =
@@ -106,7 +105,7 @@ returns-then-p-q c =
     let split = c.split_at_mut-front in
     by_front c.args.t.now c.args.sq.now c.args.p c.args.q c.args.k c.requires.0 c.requires.1 c.column_at-to.result c.column_at-from.result
     split.result.0.now split.result.1.now c.raise_by-then-p-q.new.row c.column_at-to.ensures c.column_at-from.ensures c.if-k-q.false c.if-p-q.true
-    split.ensures.front split.ensures.back c.raise_by-then-p-q.ensures
+    split.ensures.front split.ensures.back (omega arith) (omega arith) c.raise_by-then-p-q.ensures
 
 pub returns-else-p-q : goal.returns-else-p-q
 returns-else-p-q c =
@@ -114,4 +113,4 @@ returns-else-p-q c =
     let apart = c.requires.0.apart in
     by_back c.args.t.now c.args.sq.now c.args.p c.args.q c.args.k c.requires.0 c.requires.1 c.column_at-to.result c.column_at-from.result
     split.result.0.now split.result.1.now c.raise_by-else-p-q.new.row c.column_at-to.ensures c.column_at-from.ensures c.if-k-q.false
-    (omega (arith, c.if-p-q.false)) split.ensures.front split.ensures.back c.raise_by-else-p-q.ensures
+    (omega (arith, c.if-p-q.false)) split.ensures.front split.ensures.back (omega arith) (omega arith) c.raise_by-else-p-q.ensures
